@@ -1,0 +1,9 @@
+//! The disk that the store stands on: two files, the calls that read and change them, and what a crash may leave.
+#![tactic(auto)]
+
+mod bytes;
+mod device;
+mod memory;
+
+pub use device::{Disk, Failed, FileId};
+pub use memory::MemoryDisk;
