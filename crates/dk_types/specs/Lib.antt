@@ -1,0 +1,4 @@
+pub mod Names
+pub mod Columns
+pub mod Codes
+pub mod Texts
