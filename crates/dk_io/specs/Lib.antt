@@ -1,3 +1,7 @@
 pub mod Causes
-pub mod Memory
 pub mod Fronts
+pub mod Lines
+pub mod Memory
+pub mod Moves
+pub mod Reader
+pub mod Reading

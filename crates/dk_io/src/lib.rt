@@ -6,11 +6,12 @@
 //! [`lines`] stand on the traits alone. The crate stands on std, `memchr` and `thiserror`.
 #![tactic(auto)]
 
+mod begun;
 mod host;
-// pub mod lines;
+pub mod lines;
 mod memory;
 mod pausing;
-// mod pieces;
+mod pieces;
 mod streams;
 mod whole;
 
