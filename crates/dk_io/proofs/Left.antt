@@ -109,9 +109,10 @@ pub long_there : (T U : Type 0) (first old new : Reading) (a b : Option (List �
     → OnTooLong {T = U} (Err e) (λ line. (line ≡ first.number + 1) × BeginsTooLong first.limit (lines_left first a))
 long_there T U first old new a b (TooLong n) stays number limit moves p =
     let some : 0 < first.limit = subst (λ l. 0 < l) limit p.1 in
-    let long : is_too_long first.limit new.begun ≡ true = subst (λ l. is_too_long l new.begun ≡ true) limit p.2 in
-    (p.0 ∙ ap (λ n. n + 1) number,
-     long_on first.limit _ _ stays (long_on first.limit _ _ (moves_stay old new b moves) (long_left first.limit new b some long)))
+    let long : is_too_long first.limit new.begun ≡ true = subst (λ l. is_too_long l new.begun ≡ true) limit p.2 in (
+      p.0 ∙ ap (λ n. n + 1) number,
+      long_on first.limit _ _ stays (long_on first.limit _ _ (moves_stay old new b moves) (long_left first.limit new b some long)),
+    )
 long_there T U first old new a b TooMuch stays number limit moves p = tt
 long_there T U first old new a b Fault stays number limit moves p = tt
 long_there T U first old new a b OutOfMemory stays number limit moves p = tt

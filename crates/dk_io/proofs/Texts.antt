@@ -61,7 +61,7 @@ comment_kept line (b ∷ text) =
 -- what is kept of a line that has begun tells the same
 pub kept_tells : (begun text : List ℕ) → told_after (kept_of begun) text ≡ told_after begun text
 kept_tells begun text = elim (cases_Bool (is_comment begun)) [
-    inl dashed ↦
+  | inl dashed ↦
       let is = comment_is begun dashed in
       rw dashed (ap (λ w. told_after (take 2 w) text) is ∙ sym (comment_kept (drop 2 begun) text) ∙ ap (λ w. told_after w text) (sym is))
   | inr plain ↦ rw plain refl
@@ -156,14 +156,14 @@ some_same h = cc
 told_is : (line found : List ℕ) → told line ≡ Some found → line ≡ found
 told_is [] found h = absurd (none_some h)
 told_is (a ∷ line) found h = elim (cases_Bool (is_comment (a ∷ line))) [
-    inl dashed ↦ absurd (none_some (rw dashed at h))
+  | inl dashed ↦ absurd (none_some (rw dashed at h))
   | inr plain ↦ some_same (rw plain at h)
 ]
 
 -- a line that is told and not past the limit is short
 pub told_short : (limit : ℕ) (begun line : List ℕ) → is_too_long limit begun ≡ false → told (strip_carriage_return begun) ≡ Some line → length line ≤ limit
 told_short limit begun line short is = elim (cases_Bool (is_comment begun)) [
-    inl dashed ↦
+  | inl dashed ↦
       let dashes = ap (λ w. told (strip_carriage_return w)) (comment_is begun dashed) ∙ comment_told (drop 2 begun) in
       absurd (none_some (sym dashes ∙ is))
   | inr plain ↦

@@ -3,10 +3,9 @@ ghost use Rattle.std.specs.Prelude.{◌≡◌, ◌≢◌, ◌≤◌, ◌+◌, tr
 ghost use Rattle.std.specs.Str.Lines.{strip_carriage_return};
 ghost use Rattle.dk_io.specs.Lines.{is_comment, is_passed, is_too_long, kept_of};
 
+use memchr::memchr;
 use std::alloc::AllocError as OutOfMemory;
 use std::mem;
-
-use memchr::memchr;
 
 /// The number of bytes before the first line feed, and whether there is one; else the number of all.
 pub fn find_end(held: &[u8]) -> (usize, bool)

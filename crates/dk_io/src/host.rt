@@ -1,9 +1,8 @@
 //! The source and the sink over a reader and a writer of the runtime.
 ghost use Rattle.std.specs.Prelude.{◌≡◌};
 
-use std::io::{ErrorKind, Read, Write};
-
 use crate::streams::{Failed, Sink, Source};
+use std::io::{ErrorKind, Read, Write};
 
 /// A source over a reader, as the one of standard input. A read that a signal broke off is made again. What is left is
 /// what the reader tells, and the runtime's tells nothing.

@@ -13,10 +13,9 @@ mod memory;
 mod pausing;
 mod pieces;
 mod streams;
+#[cfg(test)]
+mod tests;
 mod whole;
-
-
-
 
 pub use host::{StdSink, StdSource};
 pub use memory::{MemorySink, MemorySource};

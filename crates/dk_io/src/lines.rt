@@ -7,14 +7,12 @@ ghost use Rattle.dk_io.specs.Lines.{is_too_long, told};
 ghost use Rattle.dk_io.specs.Reading.{lines_left, told_by, count_of, Pops, Stays, BeginsTooLong, Counts, OnTooLong};
 ghost use Rattle.dk_io.specs.Moves.{Moves, EndsLine, EndsText};
 
-use std::alloc::{AllocError as OutOfMemory, Global};
-use std::marker::Model;
-
-use thiserror::Error;
-
 use crate::begun::{end_line, find_end, is_passed, is_too_long, keep};
 use crate::pieces::Piece;
 use crate::streams::{Failed, Source};
+use std::alloc::{AllocError as OutOfMemory, Global};
+use std::marker::Model;
+use thiserror::Error;
 
 /// What a reader came to.
 #[derive(Clone, Copy, Debug, PartialEq, Eq)]
@@ -88,8 +86,14 @@ impl Model for LineReader {
     ghost Value = { Reading };
 
     ghost view = { λ r. record {
-        begun = r.begun.items; held = r.piece; line = r.line.items; number = r.number; taken = r.taken; limit = r.limit;
-        total = r.total } };
+      begun = r.begun.items;
+      held = r.piece;
+      line = r.line.items;
+      number = r.number;
+      taken = r.taken;
+      limit = r.limit;
+      total = r.total;
+    } };
 
     // Each line told took a byte at least, and no more than one byte past the limit was taken.
     ghost invariant = { λ r. (r.number + (vec_len r.begun + length r.piece) ≤ r.taken)
@@ -103,7 +107,14 @@ impl LineReader {
         requires limit { 0 < limit }
         requires total { total + 1 < 2 ^ 64 }
         ensures { IfOk result (λ reader. reader ≡ record {
-            begun = []; held = []; line = []; number = 0; taken = 0; limit = limit; total = total }) }
+          begun = [];
+          held = [];
+          line = [];
+          number = 0;
+          taken = 0;
+          limit = limit;
+          total = total;
+        }) }
     {
         Ok(LineReader {
             piece: Piece::new(alloc)?,

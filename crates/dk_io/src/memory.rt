@@ -4,9 +4,8 @@ ghost use Rattle.std.specs.Io.{ReadsAtMost, WritesAtMost};
 ghost use Rattle.std.specs.Io.KnownBytes.{ReadConsumes, WriteAppends};
 ghost use Rattle.dk_io.specs.Causes.{HasCause, count_more};
 
-use std::marker::Model;
-
 use crate::streams::{Failed, Sink, Source};
+use std::marker::Model;
 
 /// A source over bytes in memory. It fails at the listed calls, counted from 0, and gives at most `piece` bytes a call.
 /// The count of calls stands still at 2^64 - 1.
@@ -27,7 +26,12 @@ impl Model for MemorySource {
     ghost Value = { Feed };
 
     ghost view = { λ s. record {
-        left = drop s.at s.bytes.items; failing = s.failing.items; piece = s.piece; calls = s.calls; faults = s.faults } };
+      left = drop s.at s.bytes.items;
+      failing = s.failing.items;
+      piece = s.piece;
+      calls = s.calls;
+      faults = s.faults;
+    } };
 
     ghost invariant = { λ s. (s.at ≤ vec_len s.bytes) × (0 < s.piece) };
 }
@@ -37,7 +41,12 @@ impl MemorySource {
     pub fn new(bytes: Vec<u8>, failing: Vec<u64>, piece: usize) -> MemorySource
         requires { 0 < piece }
         ensures exact { result ≡ record {
-            left = bytes.items; failing = failing.items; piece = piece; calls = 0; faults = 0 } }
+          left = bytes.items;
+          failing = failing.items;
+          piece = piece;
+          calls = 0;
+          faults = 0;
+        } }
         ensures left { ⟦<MemorySource as Source>⟧.left result ≡ Some bytes.items }
         ensures faults { ⟦<MemorySource as Source>⟧.faults result ≡ 0 }
     {
@@ -111,8 +120,13 @@ impl Model for MemorySink {
     ghost Value = { Taker };
 
     ghost view = { λ s. record {
-        taken = s.bytes.items; failing = s.failing.items; piece = s.piece; calls = s.calls; faults = s.faults;
-        refused = s.refused } };
+      taken = s.bytes.items;
+      failing = s.failing.items;
+      piece = s.piece;
+      calls = s.calls;
+      faults = s.faults;
+      refused = s.refused;
+    } };
 
     ghost invariant = { λ s. 0 < s.piece };
 }
@@ -122,7 +136,13 @@ impl MemorySink {
     pub fn new(failing: Vec<u64>, piece: usize) -> MemorySink
         requires { 0 < piece }
         ensures exact { result ≡ record {
-            taken = []; failing = failing.items; piece = piece; calls = 0; faults = 0; refused = 0 } }
+          taken = [];
+          failing = failing.items;
+          piece = piece;
+          calls = 0;
+          faults = 0;
+          refused = 0;
+        } }
         ensures told { ⟦<MemorySink as Sink>⟧.taken result ≡ Some [] }
         ensures faults { ⟦<MemorySink as Sink>⟧.faults result ≡ 0 }
     {

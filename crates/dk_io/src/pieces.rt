@@ -4,10 +4,9 @@ ghost use Rattle.std.specs.Io.{ReadsAtMost};
 ghost use Rattle.std.specs.Io.KnownBytes.{Consumes, ReadConsumes, IsAtEnd};
 ghost use Rattle.dk_io.specs.Causes.{HasCause};
 
+use crate::streams::{Failed, Source};
 use std::alloc::{AllocError as OutOfMemory, Global};
 use std::marker::Model;
-
-use crate::streams::{Failed, Source};
 
 // The bytes of one piece.
 const PIECE: usize = 65_536;

@@ -6,5 +6,5 @@ use Rattle.dk_io.proofs.host.StdSinkSink.write.Given as goal
 abbrev pub invariant-tries : goal.invariant-tries
 invariant-tries g l = record {
   faults : l.self.faults ≡ l.fn.self.faults;
-  kept : Keeps (g.W.Write.contents l.fn.self.writer) (g.W.Write.contents l.self.writer)
+  kept : Keeps (g.W.Write.contents l.fn.self.writer) (g.W.Write.contents l.self.writer);
 }

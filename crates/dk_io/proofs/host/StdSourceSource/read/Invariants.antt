@@ -6,5 +6,5 @@ use Rattle.dk_io.proofs.host.StdSourceSource.read.Given as goal
 abbrev pub invariant-tries : goal.invariant-tries
 invariant-tries g l = record {
   faults : l.self.faults ≡ l.fn.self.faults;
-  kept : Keeps (g.R.Read.remaining l.fn.self.reader) (g.R.Read.remaining l.self.reader)
+  kept : Keeps (g.R.Read.remaining l.fn.self.reader) (g.R.Read.remaining l.self.reader);
 }

@@ -10,8 +10,8 @@ returns-in_err-take_held-clause-long g c =
     let p = err_from_is_err_and c.from_residual-in_err-take_held.result c.from_residual-in_err-take_held.ensures.1 in
     let kept = stay_on _ _ _ c.pieces.invariant.lines (fill_stays c.pieces.self c.fill.new.self _ _ c.pieces.invariant.held c.in_ok-fill.ensures.begun c.in_ok-fill.ensures.bytes) in
     rw (p.1, p.2) (long_there Bool Next c.args.self.now c.fill.new.self c.take_held.new.self (g.S.Source.left c.args.source.now) (g.S.Source.left c.fill.new.source) c.in_err-take_held.field-0.0
-      kept (c.in_ok-fill.ensures.number ∙ c.pieces.invariant.number) (c.in_ok-fill.ensures.limit ∙ c.pieces.invariant.limit)
-      c.in_err-take_held.ensures.moved c.in_err-take_held.ensures.long)
+    kept (c.in_ok-fill.ensures.number ∙ c.pieces.invariant.number) (c.in_ok-fill.ensures.limit ∙ c.pieces.invariant.limit)
+    c.in_err-take_held.ensures.moved c.in_err-take_held.ensures.long)
 
 -- what was read was counted
 pub returns-in_err-take_held-clause-taken : goal.returns-in_err-take_held-clause-taken
@@ -25,8 +25,8 @@ pieces-preserved g c = record {
   held = search rules;
   fits = rw c.in_ok-take_held.ensures.limit c.in_ok-take_held.ensures.fits;
   lines =
-    let kept = stay_on _ _ _ c.pieces.invariant.lines (fill_stays c.pieces.self c.fill.new.self _ _ c.pieces.invariant.held c.in_ok-fill.ensures.begun c.in_ok-fill.ensures.bytes) in
-    stay_on _ _ _ kept (moves_stay _ _ _ c.in_ok-take_held.ensures.moved);
+      let kept = stay_on _ _ _ c.pieces.invariant.lines (fill_stays c.pieces.self c.fill.new.self _ _ c.pieces.invariant.held c.in_ok-fill.ensures.begun c.in_ok-fill.ensures.bytes) in
+      stay_on _ _ _ kept (moves_stay _ _ _ c.in_ok-take_held.ensures.moved);
   counts = counts_more _ _ _ _ _ _ _ c.pieces.invariant.counts (c.in_ok-take_held.ensures.taken ∙ c.in_ok-fill.ensures.taken) c.in_ok-fill.ensures.bytes;
   number = c.in_ok-take_held.ensures.number ∙ c.in_ok-fill.ensures.number ∙ c.pieces.invariant.number;
   limit = c.in_ok-take_held.ensures.limit ∙ c.in_ok-fill.ensures.limit ∙ c.pieces.invariant.limit;

@@ -14,7 +14,7 @@ invariant-pieces g l = record {
   limit : l.self.limit ≡ l.fn.self.limit;
   total : l.self.total ≡ l.fn.self.total;
   taken : l.self.taken ≤ l.self.total;
-  later : g.S.Source.faults l.fn.source ≤ g.S.Source.faults l.source
+  later : g.S.Source.faults l.fn.source ≤ g.S.Source.faults l.source;
 }
 
 abbrev pub decreases-pieces : goal.decreases-pieces

@@ -12,7 +12,7 @@ returns-then-is_too_long-clause-moved c =
     let piece = c.held-held.ensures in
     let none : All (λ b. b ≢ 10) (take n c.self.inside.piece) = rw piece at c.find_end-count.ensures.before in
     let kept : c.keep.new.begun.items ≡ kept_of (c.self.inside.begun.items ++ take n c.self.inside.piece) =
-      c.in_ok-keep.ensures.ok ∙ ap (λ part. kept_of (c.self.inside.begun.items ++ part)) (c.split_at.ensures.front ∙ ap (take n) piece) in
+    c.in_ok-keep.ensures.ok ∙ ap (λ part. kept_of (c.self.inside.begun.items ++ part)) (c.split_at.ensures.front ∙ ap (take n) piece) in
     rw (← c.self.view_is) (record { same = λ text. rw (kept, c.pass.ensures.rest) (part_tells c.self.inside.begun.items c.self.inside.piece n text none) })
 
 pub returns-clause-moved : goal.returns-clause-moved
@@ -21,7 +21,7 @@ returns-clause-moved c =
     let piece = c.held-held.ensures in
     let none : All (λ b. b ≢ 10) (take n c.self.inside.piece) = rw piece at c.find_end-count.ensures.before in
     let kept : c.keep.new.begun.items ≡ kept_of (c.self.inside.begun.items ++ take n c.self.inside.piece) =
-      c.in_ok-keep.ensures.ok ∙ ap (λ part. kept_of (c.self.inside.begun.items ++ part)) (c.split_at.ensures.front ∙ ap (take n) piece) in
+    c.in_ok-keep.ensures.ok ∙ ap (λ part. kept_of (c.self.inside.begun.items ++ part)) (c.split_at.ensures.front ∙ ap (take n) piece) in
     rw (← c.self.view_is) (record { same = λ text. rw (kept, c.pass.ensures.rest) (part_tells c.self.inside.begun.items c.self.inside.piece n text none) })
 
 -- the line feed stands first in the rest
