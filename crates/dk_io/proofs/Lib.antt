@@ -1,0 +1,4 @@
+pub mod Left
+pub mod Texts
+pub mod Windows
+pub mod Written

@@ -1,0 +1,59 @@
+-- What contracts see of a line reader, and of its answers.
+use Rattle.std.specs.Prelude.{◌≡◌, ℕ, ◌+◌, ◌<◌, List, [], ◌∷◌, ◌++◌, length, Option, None, Some, Result, Ok, Err, ⊤}
+use Rattle.std.specs.Option.{option_map}
+use Rattle.dk_io.specs.Lines.{told_after}
+use Rattle.dk_io.specs.declared.lines.LineError.{LineError}
+use Rattle.dk_io.specs.declared.lines.LineError.TheVariants.{TooLong, TooMuch, Fault, OutOfMemory}
+use Rattle.dk_io.specs.declared.lines.Next.{Next}
+use Rattle.dk_io.specs.declared.lines.Next.TheVariants.{End, Passed, Line}
+use Rattle.dk_io.specs.Reader.{Reading}
+
+-- what is told of the lines that a reader has yet to give, over a source with these bytes left
+abbrev pub lines_left : Reading → Option (List ℕ) → Option (List (Option (List ℕ)))
+lines_left reading left = option_map (λ text. told_after reading.begun (reading.held ++ text)) left
+
+-- what an answer tells of a line, if it tells one
+abbrev pub told_by : Next → List ℕ → Option (Option (List ℕ))
+told_by End line = None
+told_by Passed line = Some None
+told_by Line line = Some (Some line)
+
+-- how many lines an answer tells
+abbrev pub count_of : Next → ℕ
+count_of End = 0
+count_of Passed = 1
+count_of Line = 1
+
+-- the first item of a known list, if there is one, and the items after it
+abbrev pub Pops : {T : Type 0} → Option (List T) → Option T → Option (List T) → Type 0
+Pops None first new = ⊤
+Pops (Some xs) first None = ⊥
+Pops (Some xs) None (Some ys) = (xs ≡ []) × (ys ≡ [])
+Pops (Some xs) (Some x) (Some ys) = xs ≡ x ∷ ys
+
+-- a known value stays as it was
+abbrev pub Stays : {T : Type 0} → Option T → Option T → Type 0
+Stays None new = ⊤
+Stays (Some x) None = ⊥
+Stays (Some x) (Some y) = y ≡ x
+
+-- the first of the known lines is told, and longer than the limit
+abbrev pub BeginsTooLong : ℕ → Option (List (Option (List ℕ))) → Type 0
+BeginsTooLong limit None = ⊤
+BeginsTooLong limit (Some []) = ⊥
+BeginsTooLong limit (Some (None ∷ lines)) = ⊥
+BeginsTooLong limit (Some (Some line ∷ lines)) = limit < length line
+
+-- the bytes taken grow by those that the source no longer has
+abbrev pub Counts : ℕ → Option (List ℕ) → ℕ → Option (List ℕ) → Type 0
+Counts before None now new = ⊤
+Counts before (Some xs) now None = ⊥
+Counts before (Some xs) now (Some ys) = before + length xs ≡ now + length ys
+
+-- a fact for a line past the limit, by its number
+abbrev pub OnTooLong : {T : Type 0} → Result T LineError → (ℕ → Type 0) → Type 0
+OnTooLong (Ok v) P = ⊤
+OnTooLong (Err (TooLong line)) P = P line
+OnTooLong (Err TooMuch) P = ⊤
+OnTooLong (Err Fault) P = ⊤
+OnTooLong (Err OutOfMemory) P = ⊤

@@ -1,0 +1,144 @@
+//! Each public call on its happy path, and the lines of texts that come in pieces.
+use crate::lines::{LineError, LineReader, Next};
+use crate::pausing::{NoPause, Pause, Point};
+use crate::streams::{Sink, Source};
+use crate::{MemorySink, MemorySource, StdSink, StdSource, write_all};
+use std::alloc::{AllocError as OutOfMemory, Global};
+use std::test::Fail;
+
+// Puts what a reader tells of one line behind the others: the line and `|`, `~` for one passed over, `$` for the end.
+// Says whether to go on.
+fn tell(
+    reader: &LineReader,
+    next: Result<Next, LineError>,
+    told: &mut Vec<u8>,
+) -> Result<bool, OutOfMemory> {
+    let (mark, more) = match next {
+        Ok(Next::Line) => {
+            told.extend_from_slice(reader.line())?;
+            (b"|", true)
+        }
+        Ok(Next::Passed) => (b"~", true),
+        Ok(Next::End) => (b"$", false),
+        Err(LineError::Fault) => (b"!", true),
+        Err(LineError::TooLong { line }) => {
+            let number = line.to_string(*told.allocator())?;
+            told.extend_from_slice(number.as_bytes())?;
+            (b"<", false)
+        }
+        Err(LineError::TooMuch) => (b">", false),
+        Err(LineError::OutOfMemory) => (b"?", false),
+    };
+    told.extend_from_slice(mark)?;
+    Ok(more)
+}
+
+// All that a reader tells of a text, with lines of at most 4 bytes and 40 bytes in all.
+fn telling(
+    alloc: Global,
+    text: &[u8],
+    failing: &[u64],
+    piece: usize,
+) -> Result<Vec<u8>, OutOfMemory> {
+    let bytes = text.to_vec(alloc)?;
+    let mut source = MemorySource::new(bytes, failing.to_vec(alloc)?, piece.max(1));
+    let mut reader = LineReader::new(alloc, 4, 40)?;
+    let mut told = Vec::new(alloc);
+    for _ in 0..60 {
+        let next = reader.next_line(&mut source);
+        if !tell(&reader, next, &mut told)? {
+            break;
+        }
+    }
+    Ok(told)
+}
+
+// Whether a reader tells the same of a text in pieces of 1, 3 and 65,536 bytes.
+fn tells(alloc: Global, text: &[u8], told: &[u8]) -> Result<bool, OutOfMemory> {
+    Ok(
+        telling(alloc, text, &[], 1)?.as_slice() == told
+            && telling(alloc, text, &[], 3)?.as_slice() == told
+            && telling(alloc, text, &[], 65_536)?.as_slice() == told,
+    )
+}
+
+#[test]
+fn lines_of_texts(rt: HostRuntime) -> Result<(), Fail> {
+    let alloc = rt.alloc();
+    assert!(rt; tells(alloc, b"", b"$")?);
+    assert!(rt; tells(alloc, b"\n", b"~$")?);
+    assert!(rt; tells(alloc, b"ab\ncd\n", b"ab|cd|$")?);
+    assert!(rt; tells(alloc, b"ab\r\n\r\ncd", b"ab|~cd|$")?);
+    assert!(rt; tells(alloc, b"a\r\r\nb\r", b"a\r|b|$")?);
+    assert!(rt; tells(alloc, b"-- a long comment\n-\n--\r\nx", b"~-|~x|$")?);
+    Ok(())
+}
+
+#[test]
+fn limits_of_texts(rt: HostRuntime) -> Result<(), Fail> {
+    let alloc = rt.alloc();
+    assert!(rt; tells(alloc, b"abcd\r\nabcd", b"abcd|abcd|$")?);
+    assert!(rt; tells(alloc, b"\nabcde\nf\n", b"~2<")?);
+    assert!(rt; tells(alloc, b"a\nb\nabcd\rx", b"a|b|3<")?);
+    assert!(rt; tells(alloc, b"--3456789 123456789 123456789 123456789\n", b"~$")?);
+    assert!(rt;
+        tells(
+            alloc,
+            b"a\n--3456789 123456789 123456789 1234567\nb",
+            b"a|~>"
+        )?
+    );
+    assert!(rt;
+        tells(
+            alloc,
+            b"a\n--3456789 123456789 123456789 1234567890",
+            b"a|>"
+        )?
+    );
+    Ok(())
+}
+
+#[test]
+fn faults_in_mid_line(rt: HostRuntime) -> Result<(), Fail> {
+    let alloc = rt.alloc();
+    let told = telling(alloc, b"abc\n--d\ne", &[0, 2, 4, 5], 2)?;
+    assert_eq!(rt; told.as_slice(), b"!!abc|!!~e|$".as_slice());
+    Ok(())
+}
+
+#[test]
+fn source_in_memory(rt: HostRuntime) -> Result<(), Fail> {
+    let alloc = rt.alloc();
+    let mut source = MemorySource::new(b"abcd".to_vec(alloc)?, vec![in alloc; 1]?, 3);
+    let mut buf = [0u8; 4];
+    assert_eq!(rt; source.read(&mut buf).ok(), Some(3));
+    assert_eq!(rt; buf.as_slice(), b"abc\0".as_slice());
+    assert!(rt; source.read(&mut buf).is_err());
+    assert_eq!(rt; source.read(&mut buf).ok(), Some(1));
+    assert_eq!(rt; source.read(&mut buf).ok(), Some(0));
+    Ok(())
+}
+
+#[test]
+fn sink_in_memory(rt: HostRuntime) -> Result<(), Fail> {
+    let alloc = rt.alloc();
+    let mut sink = MemorySink::new(vec![in alloc; 3]?, 2);
+    write_all(&mut sink, b"hello")?;
+    assert!(rt; write_all(&mut sink, b"!").is_err());
+    assert_eq!(rt; sink.write(b" you").ok(), Some(2));
+    assert_eq!(rt; sink.bytes(), b"hello y".as_slice());
+    assert_eq!(rt; sink.refused(), 0);
+    Ok(())
+}
+
+#[test]
+fn streams_of_std(rt: HostRuntime) -> Result<(), Fail> {
+    let alloc = rt.alloc();
+    let mut source = StdSource::new(b"abc".as_slice());
+    let mut buf = [0u8; 2];
+    assert_eq!(rt; source.read(&mut buf).ok(), Some(2));
+    let mut sink = StdSink::new(Vec::new(alloc));
+    assert_eq!(rt; sink.write(&buf).ok(), Some(2));
+    NoPause.at(1, Point::BeforeStatement);
+    Ok(())
+}
