@@ -1,11 +1,11 @@
 -- The lines of a text that comes in parts.
-use Rattle.std.proofs.Common.{◌≡◌, ◌≢◌, ℕ, zero, suc, ◌+◌, ◌-◌, ◌<◌, ◌≤◌, Bool, true, false, cond, List, [], ◌∷◌, ◌++◌, Option, None, Some, length, take, drop, map, refl, sym, ◌∙◌, ap, subst, append_assoc, arith, get_or, inl, inr, length-append}
-use Rattle.std.specs.Prelude.{All, ◌==◌, ◌&&◌, ◌⊎◌, nat_lt, if◌then◌else◌}
+use Rattle.std.proofs.Common.{◌≡◌, ◌≢◌, ℕ, suc, ◌+◌, ◌-◌, ◌<◌, ◌≤◌, Bool, true, false, cond, List, [], ◌∷◌, ◌++◌, Option, None, Some, length, take, drop, map, refl, sym, ◌∙◌, ap, subst, append_assoc, arith, inl, inr, length-append}
+use Rattle.std.specs.Prelude.{All, ◌==◌, ◌&&◌, if◌then◌else◌}
 use Rattle.std.specs.Str.Lines.{strip_carriage_return}
 use Rattle.std.proofs.lemmas.Bool.{eqb-true, ne_eqb, ltb-true, ltb-false, lt-ltb, cases_Bool, false≢true}
 use Rattle.std.proofs.lemmas.List.{append-nil, take-append-drop, length-take-le}
 use Rattle.std.proofs.lemmas.List.Elements.{All-get_or, All-drop}
-use Rattle.dk_io.specs.Lines.{lines_after, last_line, is_comment, is_passed, told, told_after, kept_of, is_too_long}
+use Rattle.dk_io.specs.Lines.{lines_after, is_comment, told, told_after, kept_of, is_too_long}
 use Rattle.dk_io.specs.Reading.{BeginsTooLong}
 
 -- both tests pass

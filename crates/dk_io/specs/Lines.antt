@@ -1,6 +1,5 @@
 -- The lines of a text, and which of them are passed over.
-use Rattle.std.specs.Prelude.{ℕ, ◌<◌, Bool, false, true, ◌&&◌, ◌||◌, ◌==◌, nat_lt, List, [], ◌∷◌, ◌++◌, length, take, map, Option, None, Some, if◌then◌else◌}
-use Rattle.std.specs.Option.{option_map}
+use Rattle.std.specs.Prelude.{ℕ, Bool, false, true, ◌&&◌, ◌==◌, nat_lt, List, [], ◌∷◌, ◌++◌, length, take, map, Option, None, Some, if◌then◌else◌}
 use Rattle.std.specs.Str.Lines.{strip_carriage_return}
 
 -- the line that the end of a text ends, if one has begun

@@ -65,9 +65,9 @@ impl From<Failed> for LineError {
 }
 
 /// Reads the lines of a source. A line ends with a line feed or with the input, and one carriage return before that end
-/// is dropped. The source is asked for another piece of at most 64 KiB only where no whole line is held. An empty line and one
-/// that begins with `--` are passed over: no limit is set on them, and they are not kept in memory. Memory is one piece
-/// and one line.
+/// is dropped. The source is asked for another piece of at most 64 KiB only where no whole line is held. An empty line
+/// and one that begins with `--` are passed over: no limit is set on them, and they are not kept in memory. Memory is
+/// one piece, the line told last and the line that has begun.
 #[derive(Debug, Drop)]
 pub struct LineReader {
     piece: Piece,

@@ -1,5 +1,5 @@
-use Rattle.std.proofs.Common.{◌≡◌, ◌≢◌, ℕ, ◌++◌, Some, Ok, Bool, true, drop, take, sym, ◌∙◌, ap}
-use Rattle.std.specs.Prelude.{All, slice_get}
+use Rattle.std.proofs.Common.{◌≡◌, ◌≢◌, ◌++◌, true, take, ◌∙◌, ap}
+use Rattle.std.specs.Prelude.{All}
 use Rattle.dk_io.specs.Lines.{kept_of}
 use Rattle.dk_io.proofs.Texts.{part_tells}
 use Rattle.dk_io.proofs.Windows.{slice_get-drop}
