@@ -136,7 +136,9 @@ impl LineReader {
 
     /// How many lines were told, those that were passed over included: the number of the line told last, counted from 1.
     pub fn number(&self) -> u64
-        ensures { result ≡ self.now.number }
+        ensures number { result ≡ self.now.number }
+        ensures bound { result ≤ self.now.total + 1 }
+        ensures fits { self.now.total + 1 < 2 ^ 64 }
     {
         self.number
     }
@@ -155,6 +157,7 @@ impl LineReader {
             × BeginsTooLong self.old.limit (lines_left self.old (S.left source.old))) }
         ensures much { IsErrOf result LineError.TooMuch ↔ (self.new.total < self.new.taken) }
         ensures fault { IsErrOf result LineError.Fault → Rose (S.faults source.old) (S.faults source.new) }
+        ensures unheld { IsErrOf result LineError.Fault → self.new.held ≡ [] }
         ensures later { S.faults source.old ≤ S.faults source.new }
 
         // The source is asked only where no whole line is held, and what it gives is counted.
@@ -187,6 +190,7 @@ impl LineReader {
             × BeginsTooLong self.old.limit (lines_left self.old (S.left source.old))) }
         ensures much { IsErrOf result LineError.TooMuch ↔ (self.new.total < self.new.taken) }
         ensures fault { IsErrOf result LineError.Fault → Rose (S.faults source.old) (S.faults source.new) }
+        ensures unheld { IsErrOf result LineError.Fault → self.new.held ≡ [] }
         ensures later { S.faults source.old ≤ S.faults source.new }
         ensures taken { Counts self.old.taken (S.left source.old) self.new.taken (S.left source.new) }
         ensures limit { self.new.limit ≡ self.old.limit }
@@ -213,6 +217,7 @@ impl LineReader {
         ensures end { result ≡ Ok false → (self.new.held ≡ []) × IsAtEnd (S.left source.new) }
         ensures much { IsErrOf result LineError.TooMuch ↔ (self.new.total < self.new.taken) }
         ensures fault { IsErrOf result LineError.Fault → Rose (S.faults source.old) (S.faults source.new) }
+        ensures unheld { IsErrOf result LineError.Fault → self.new.held ≡ [] }
         ensures long { OnTooLong result (λ _. ⊥) }
         ensures later { S.faults source.old ≤ S.faults source.new }
         ensures begun { self.new.begun ≡ self.old.begun }
