@@ -1,2 +1,6 @@
+pub mod Chain
+pub mod Chunk
+pub mod Held
 pub mod Ownership
 pub mod Places
+pub mod Stack

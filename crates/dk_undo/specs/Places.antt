@@ -1,5 +1,5 @@
 -- The places of a chunk, each empty or holding a value.
-use Rattle.std.specs.Prelude.{◌≡◌, ℕ, ◌-◌, get_or, List, [], ◌∷◌, ◌++◌, map, length, replicate, Option, Some, None}
+use Rattle.std.specs.Prelude.{◌≡◌, ℕ, get_or, List, [], ◌∷◌, ◌++◌, map, replicate, Option, Some, None}
 
 module _ {X : Type 0} where
   -- the values that are there
@@ -12,6 +12,6 @@ module _ {X : Type 0} where
   abbrev pub IsFilled : List (Option X) → ℕ → Type 0
   IsFilled cs i = (x : X) × (get_or cs i None ≡ Some x)
 
-  -- n places that begin with the items
-  unfoldable pub filled : List X → ℕ → List (Option X)
-  filled xs n = map Some xs ++ replicate (n - length xs) None
+  -- places with the items, and behind them n empty ones
+  abbrev pub filled : List X → ℕ → List (Option X)
+  filled xs n = map Some xs ++ replicate n None
