@@ -1,5 +1,5 @@
 -- Places that begin with the items.
-use Rattle.std.proofs.Common.{◌≡◌, ℕ, zero, suc, ◌+◌, List, [], ◌∷◌, ◌++◌, length, replicate, set, get_or, slice_get, Option, Some, None, refl, ap}
+use Rattle.std.proofs.Common.{◌≡◌, ℕ, zero, suc, List, [], ◌∷◌, ◌++◌, length, replicate, set, get_or, slice_get, Option, Some, None, refl, ap}
 use Rattle.dk_undo.specs.Places.{somes, filled}
 
 module _ {X : Type 0} where

@@ -1,8 +1,8 @@
 -- Chunks that are filled from the front.
-use Rattle.std.proofs.Common.{◌≡◌, ℕ, zero, suc, ◌+◌, ◌-◌, ◌*◌, ◌<◌, ◌≤◌, min, List, [], ◌∷◌, ◌++◌, length, set, get_or, slice_get, take, drop, Some, refl, sym, ap, ◌∙◌, subst, arith, length-append, append_assoc, append-nil, drop_at, take_at, inl, inr, ◌⊎◌}
-use Rattle.std.proofs.lemmas.List.{length_push}
+use Rattle.std.proofs.Common.{◌≡◌, ℕ, zero, suc, ◌+◌, ◌-◌, ◌*◌, ◌<◌, ◌≤◌, List, [], ◌∷◌, ◌++◌, length, set, get_or, slice_get, take, drop, refl, sym, ap, ◌∙◌, subst, arith, length-append, append_assoc, append-nil, drop_at, take_at}
+use Rattle.std.proofs.lemmas.List.{length-map, length_push}
 use Rattle.dk_undo.specs.Held.{Held}
-use Rattle.dk_undo.specs.Chain.{entries_of, IsPacked, AreEmpty, Grows}
+use Rattle.dk_undo.specs.Chain.{entries_of, places_of, IsPacked, AreEmpty, Grows}
 use Rattle.dk_undo.proofs.Chunks.{slice_get-front, slice_get-behind}
 
 module _ {X : Type 0} where
@@ -49,9 +49,10 @@ module _ {X : Type 0} where
       → c.items ≡ (get_or cs i d).items ++ v ∷ [] → IsPacked (n + 1) (set cs i c) × (entries_of (set cs i c) ≡ entries_of cs ++ v ∷ [])
   put-packed n i k [] d c v p at lt h e = absurd (omega arith)
   put-packed n zero k (b ∷ cs) d c v p at lt h e =
-      let none = packed-empty (n - 64) cs p.1 (omega arith) in let rest = entries-empty cs none in
-      ((omega (arith, p.0, ap length e, length_push b.items v), subst (λ m. IsPacked m cs) (omega arith) (packed-none cs none)),
-      (λ j. e j ++ rest j) ∙ append-nil (b.items ++ v ∷ []) ∙ ap (λ l. l ++ v ∷ []) (sym (append-nil b.items) ∙ (λ j. b.items ++ sym rest j)))
+      let none = packed-empty (n - 64) cs p.1 (omega arith) in let rest = entries-empty cs none in (
+        (omega (arith, p.0, ap length e, length_push b.items v), subst (λ m. IsPacked m cs) (omega arith) (packed-none cs none)),
+        (λ j. e j ++ rest j) ∙ append-nil (b.items ++ v ∷ []) ∙ ap (λ l. l ++ v ∷ []) (sym (append-nil b.items) ∙ (λ j. b.items ++ sym rest j)),
+      )
   put-packed n (suc i) k (b ∷ cs) d c v p at lt h e =
       let on = put-packed (n - 64) i k cs d c v p.1 (omega arith) lt (omega arith) e in let step : n - 64 + 1 ≡ n + 1 - 64 = omega arith in
       ((omega (arith, p.0), subst (λ m. IsPacked m (set cs i c)) step on.0), ap (λ l. b.items ++ l) on.1 ∙ sym (append_assoc b.items (entries_of cs) (v ∷ [])))
@@ -61,9 +62,10 @@ module _ {X : Type 0} where
       → (get_or cs i d).items ≡ c.items ++ v ∷ [] → i < length cs → IsPacked n (set cs i c) × (entries_of cs ≡ entries_of (set cs i c) ++ v ∷ [])
   take-packed n i k [] d c v p at lt e h = absurd (omega arith)
   take-packed n zero k (b ∷ cs) d c v p at lt e h =
-      let none = packed-empty (n + 1 - 64) cs p.1 (omega arith) in let rest = entries-empty cs none in
-      ((omega (arith, p.0, ap length e, length_push c.items v), subst (λ m. IsPacked m cs) (omega arith) (packed-none cs none)),
-      (λ j. e j ++ rest j) ∙ append-nil (c.items ++ v ∷ []) ∙ ap (λ l. l ++ v ∷ []) (sym (append-nil c.items) ∙ (λ j. c.items ++ sym rest j)))
+      let none = packed-empty (n + 1 - 64) cs p.1 (omega arith) in let rest = entries-empty cs none in (
+        (omega (arith, p.0, ap length e, length_push c.items v), subst (λ m. IsPacked m cs) (omega arith) (packed-none cs none)),
+        (λ j. e j ++ rest j) ∙ append-nil (c.items ++ v ∷ []) ∙ ap (λ l. l ++ v ∷ []) (sym (append-nil c.items) ∙ (λ j. c.items ++ sym rest j)),
+      )
   take-packed n (suc i) k (b ∷ cs) d c v p at lt e h =
       let step : n + 1 - 64 ≡ n - 64 + 1 = omega arith in
       let on = take-packed (n - 64) i k cs d c v (subst (λ m. IsPacked m cs) step p.1) (omega arith) lt e (omega arith) in
@@ -120,3 +122,12 @@ module _ {X : Type 0} where
 
   pub grows-entries : (bs cs : List (Held X)) (m : ℕ) → Grows bs cs m → entries_of cs ≡ entries_of bs
   grows-entries bs cs m grown = ap entries_of grown.after ∙ entries-more bs grown.added grown.empty
+
+  -- a chunk that changes where it lies moves none
+  pub places-set : (cs : List (Held X)) (i : ℕ) (d c : Held X) → c.place ≡ (get_or cs i d).place → places_of (set cs i c) ≡ places_of cs
+  places-set [] i d c e = refl
+  places-set (b ∷ cs) zero d c e = ap (λ p. p ∷ places_of cs) e
+  places-set (b ∷ cs) (suc i) d c e = ap (λ l. b.place ∷ l) (places-set cs i d c e)
+
+  pub length-placed : (cs ds : List (Held X)) → places_of ds ≡ places_of cs → length ds ≡ length cs
+  length-placed cs ds e = omega (arith, ap length e, length-map cs (λ c. c.place), length-map ds (λ c. c.place))

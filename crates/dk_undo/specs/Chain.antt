@@ -1,5 +1,6 @@
 -- How the entries of a stack lie in its chunks.
-use Rattle.std.specs.Prelude.{◌≡◌, ℕ, ◌-◌, ◌*◌, ◌^◌, ◌<◌, min, List, [], ◌∷◌, ◌++◌, length}
+use Rattle.std.specs.Prelude.{◌≡◌, ℕ, ◌-◌, ◌*◌, ◌^◌, ◌<◌, min, List, [], ◌∷◌, ◌++◌, length, map}
+use denote.RawPtr.{Ptr}
 use Rattle.dk_undo.specs.Held.{Held}
 use Rattle.dk_undo.specs.Stack.{Stack, stack}
 use Rattle.dk_undo.specs.declared.stack.UndoStack.TheInside.{Inside}
@@ -9,6 +10,10 @@ module _ {X : Type 0} where
   abbrev pub entries_of : List (Held X) → List X
   entries_of [] = []
   entries_of (c ∷ cs) = c.items ++ entries_of cs
+
+  -- where the chunks lie
+  abbrev pub places_of : List (Held X) → List Ptr
+  places_of cs = map (λ c. c.place) cs
 
   -- n entries fill the chunks from the front: each chunk has 64 until they are used up
   abbrev pub IsPacked : ℕ → List (Held X) → Type 0

@@ -1,5 +1,6 @@
 -- What a contract sees of an undo stack.
-use Rattle.std.specs.Prelude.{ℕ, ◌+◌, ◌-◌, ◌*◌, ◌/◌, List, refl}
+use Rattle.std.specs.Prelude.{ℕ, ◌+◌, ◌-◌, ◌*◌, List, refl}
+use Rattle.std.specs.Int.{div_ceil}
 use Rattle.std.specs.Coded.{Coded, code_by, coded×, coded_list, coded_ℕ}
 
 -- the entries, oldest first, and how many more there is room for without taking memory
@@ -16,4 +17,4 @@ module _ {X : Type 0} where
 
 -- the room after `n` entries have been made room for: the least number of chunks of 64 is added
 abbrev pub reserved : ℕ → ℕ → ℕ
-reserved spare n = spare + 64 * ((n - spare + 63) / 64)
+reserved spare n = spare + 64 * div_ceil (n - spare) 64

@@ -1,9 +1,30 @@
-//! The chain of a stack's chunks: how it grows by empty ones, and gives them back.
-ghost use Rattle.std.specs.Prelude.{◌≡◌, IsOk, OnOk, OnErr, drop, take};
-ghost use Rattle.dk_undo.specs.Chain.{AreEmpty, Grows};
+//! The chain of a stack's chunks: how entries go into it, and how it grows by empty chunks and gives them back.
+ghost use Rattle.std.specs.Prelude.{◌≡◌, ◌+◌, ◌*◌, ◌<◌, [], ◌∷◌, ◌++◌, length, slice_get, Some, IsOk, OnOk, OnErr, drop, take};
+ghost use Rattle.dk_undo.specs.Chain.{AreEmpty, Grows, IsPacked, entries_of, places_of};
 
-use crate::chunk::Chunk;
+use crate::chunk::{CHUNK_LEN, Chunk};
 use std::alloc::AllocError as OutOfMemory;
+
+/// Puts `entry` behind the `len` entries of the chunks. No chunk moves.
+pub(crate) fn put_last<T>(chunks: &mut Vec<Chunk<T>>, len: usize, entry: T)
+    requires packed { IsPacked len chunks.old.items }
+    requires room { len < 64 * length chunks.old.items }
+    ensures packed { IsPacked (len + 1) chunks.new.items }
+    ensures entries { entries_of chunks.new.items ≡ entries_of chunks.old.items ++ entry ∷ [] }
+    ensures places { places_of chunks.new.items ≡ places_of chunks.old.items }
+{
+    chunks[len / CHUNK_LEN].put(len % CHUNK_LEN, entry);
+}
+
+/// Takes the last of the `at + 1` entries of the chunks. No chunk moves.
+pub(crate) fn take_last<T>(chunks: &mut Vec<Chunk<T>>, at: usize) -> T
+    requires { IsPacked (at + 1) chunks.old.items }
+    ensures packed { IsPacked at chunks.new.items }
+    ensures entries { entries_of chunks.old.items ≡ entries_of chunks.new.items ++ result ∷ [] }
+    ensures places { places_of chunks.new.items ≡ places_of chunks.old.items }
+{
+    chunks[at / CHUNK_LEN].take(at % CHUNK_LEN)
+}
 
 /// Adds one empty chunk.
 fn add_chunk<T>(chunks: &mut Vec<Chunk<T>>) -> Result<(), OutOfMemory>

@@ -2,7 +2,7 @@
 ghost use Rattle.std.specs.Prelude.{◌≡◌, ◌+◌, ◌-◌, ◌<◌, ◌≤◌, ◌↔◌, [], ◌∷◌, ◌++◌, length, slice_get, Some, IsNone, IsOk, IfSome, OnSome, OnOk, OnErr, IfNone};
 ghost use Rattle.dk_undo.specs.Stack.{stack, reserved};
 
-use crate::chain::{add_chunks, free_chunks};
+use crate::chain::{add_chunks, free_chunks, put_last, take_last};
 use crate::chunk::{CHUNK_LEN, Chunk};
 use std::alloc::{AllocError as OutOfMemory, Global};
 use std::marker::Model;
@@ -75,7 +75,7 @@ impl<T> UndoStack<T> {
         requires { 1 ≤ self.old.spare }
         ensures { self.new ≡ stack (self.old.entries ++ v ∷ []) (self.old.spare - 1) }
     {
-        self.chunks[self.len / CHUNK_LEN].put(self.len % CHUNK_LEN, v);
+        put_last(&mut self.chunks, self.len, v);
         self.len += 1;
     }
 
@@ -90,7 +90,7 @@ impl<T> UndoStack<T> {
             return None;
         }
         self.len -= 1;
-        Some(self.chunks[self.len / CHUNK_LEN].take(self.len % CHUNK_LEN))
+        Some(take_last(&mut self.chunks, self.len))
     }
 
     /// The `i`-th entry from the newest, counted from 0.
@@ -106,10 +106,7 @@ impl<T> UndoStack<T> {
     pub fn destroy_empty(self)
         requires { self.entries ≡ [] }
     {
-        let UndoStack {
-            mut chunks,
-            len: _,
-        } = self;
+        let UndoStack { mut chunks, len: _ } = self;
         free_chunks(&mut chunks, 0);
         chunks.destroy_empty();
     }

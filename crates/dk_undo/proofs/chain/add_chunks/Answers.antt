@@ -1,4 +1,4 @@
-use Rattle.std.proofs.Common.{◌≡◌, ◌++◌, drop, take, length, sym, ap, ◌∙◌, subst, arith}
+use Rattle.std.proofs.Common.{◌≡◌, drop, take, sym, ap, ◌∙◌, subst, arith}
 use Rattle.dk_undo.specs.Chain.{AreEmpty, Grows}
 use Rattle.dk_undo.proofs.Packed.{grows-nothing, grows-more, grows-drop, grows-take}
 use Rattle.dk_undo.proofs.chain.add_chunks.Goals as goal

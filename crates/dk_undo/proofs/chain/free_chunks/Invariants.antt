@@ -1,4 +1,4 @@
-use Rattle.std.proofs.Common.{◌≡◌, ◌≤◌, drop, take}
+use Rattle.std.proofs.Common.{◌≡◌, drop, take}
 use Rattle.dk_undo.specs.Chain.{AreEmpty}
 use Rattle.dk_undo.proofs.chain.free_chunks.Given as goal
 

@@ -1,4 +1,4 @@
-use Rattle.std.proofs.Common.{[], ap, sym, refl, ◌∙◌}
+use Rattle.std.proofs.Common.{[], refl}
 use Rattle.dk_undo.proofs.Chunks.{laid_as}
 use Rattle.dk_undo.proofs.chunk.Chunk.new.Goals as goal
 

@@ -1,4 +1,4 @@
-use Rattle.std.proofs.Common.{length, sym, ap, ◌∙◌, ◌++◌, ◌∷◌, [], arith}
+use Rattle.std.proofs.Common.{length, sym, ap, ◌∙◌, arith}
 use Rattle.dk_undo.proofs.Chunks.{item_at, place_holds, taken_from}
 use Rattle.dk_undo.proofs.chunk.Chunk.take.Goals as goal
 
