@@ -1,20 +1,19 @@
-//! The block, as Rust's `[MaybeUninit<T>]`: a row of places, each empty or holding a value.
-ghost use Rattle.std.specs.Prelude.{◌≡◌, ℕ, ◌<◌, List, Option, Some, None, length, replicate, get_or, slice_set, IfOk, IsTrue, ⊤};
-ghost use Rattle.std.specs.Vec.Ownership.{FitsInBlock};
+//! The parts of a block, which is as Rust's `[MaybeUninit<T>]`: a row of places, each empty or holding a value.
+//!
+//! `Cells` owns the places and knows which are filled, and `Deed` is the right to give the block back. Neither is `Drop`,
+//! so a block is neither lost nor given back twice. A write asks for an empty place and a read for a filled one, so no
+//! value is written over, read twice or read before it is written.
+ghost use Rattle.std.specs.Prelude.{◌≡◌, ℕ, List, Option, Some, None, get_or, ⊤};
 ghost use base.Fml.{ftrue};
-ghost use denote.Param.{layout};
 ghost use denote.RawPtr.{Ptr};
-ghost use prog.Memory.{size, capped};
-ghost use Rattle.dk_undo.specs.Places.{IsFilled};
 ghost use Rattle.dk_undo.specs.Ownership.{cells_own, cells_lent, deed_owns};
 
 use std::alloc::{AllocError, Allocator};
 use std::marker::{Model, PhantomData, Send, Sync};
-use std::mem::{align_of, size_of};
 
 /// Where the block begins. It owns nothing.
 pub struct Base<T> {
-    ptr: *mut T,
+    pub(crate) ptr: *mut T,
 }
 
 impl<T> Clone for Base<T> {
@@ -33,9 +32,9 @@ unsafe impl<T> Send for Base<T> {}
 
 unsafe impl<T> Sync for Base<T> {}
 
-/// The owner of the places. It takes no space: the buffer holds the pointer and the capacity.
+/// The owner of the places. It takes no space: the chunk holds the pointer.
 pub struct Cells<T> {
-    mark: PhantomData<*const T>,
+    pub(crate) mark: PhantomData<*const T>,
     ghost at: { Ptr },
     ghost slots: { List (Option T) },
 }
@@ -52,7 +51,7 @@ unsafe impl<T: Sync> Sync for Cells<T> {}
 
 /// The right to give the block of `len` places at `at` back to `alloc`. It takes no space.
 pub struct Deed<T, A: Allocator> {
-    mark: PhantomData<*const (T, A)>,
+    pub(crate) mark: PhantomData<*const (T, A)>,
     ghost at: { Ptr },
     ghost len: { ℕ },
     ghost alloc: { A },
@@ -69,84 +68,29 @@ unsafe impl<T, A: Allocator + Send> Send for Deed<T, A> {}
 // A `&` to it holds nothing.
 unsafe impl<T, A: Allocator> Sync for Deed<T, A> {}
 
-/// The size of `T` as a plain number, where elsewhere `size_of` of a type parameter stands only in a product.
-fn size_of_item<T>() -> usize
-    ensures { result ≡ capped (size (layout T.row)) }
-{
-    size_of::<T>()
-}
-
-/// Whether a block of `len` places is small enough to ask for.
-pub(crate) fn fits_in_block<T>(len: usize) -> bool
-    ensures { IsTrue result → FitsInBlock T.row len }
-{
-    let most = isize::MAX as usize;
-    let size = size_of_item::<T>();
-    if most < len || most < size {
-        return false;
-    }
-    match len.checked_mul(size) {
-        Some(bytes) => bytes <= most,
-        None => false,
-    }
-}
-
-pub(crate) fn allocate<T, A: Allocator>(
-    alloc: &A,
-    len: usize,
-) -> Result<(Base<T>, Cells<T>, Deed<T, A>), AllocError>
-    requires { FitsInBlock T.row len }
-    ensures { IfOk result (λ r. (r.1.at ≡ r.0.ptr) × (r.1.slots ≡ replicate len None) × (r.2.at ≡ r.0.ptr) × (r.2.len ≡ len) × (r.2.alloc ≡ alloc.now)) }
-{
-    match alloc.allocate(len * size_of::<T>(), align_of::<T>()) {
-        Ok(block) => {
-            let base = Base {
-                ptr: block as *mut T,
-            };
-            Ok((
-                base,
-                Cells { mark: PhantomData },
-                Deed { mark: PhantomData },
-            ))
-        }
-        Err(error) => Err(error),
-    }
-}
-
-pub(crate) fn deallocate<T, A: Allocator>(
-    alloc: &A,
-    base: Base<T>,
-    len: usize,
-    cells: Cells<T>,
-    deed: Deed<T, A>,
-)
-    requires { (cells.at ≡ base.ptr) × (cells.slots ≡ replicate len None) × (deed.at ≡ base.ptr) × (deed.len ≡ len) × (deed.alloc ≡ alloc.now) }
-{
-    let Cells { mark: _ } = cells;
-    let Deed { mark: _ } = deed;
-    unsafe {
-        alloc.deallocate(base.ptr as *mut u8, len * size_of::<T>(), align_of::<T>());
-    }
-}
-
 impl<T> Cells<T> {
+    ghost use Rattle.dk_undo.specs.Block.{HasEmptyPlace, HasFilledPlace, ChangesPlace};
+
+    /// Puts `item` into the empty place at `index`.
     pub(crate) fn write(&mut self, base: Base<T>, index: usize, item: T)
-        requires { (base.ptr ≡ self.old.at) × (index < length self.old.slots) × (get_or self.old.slots index None ≡ None) }
-        ensures { (self.new.at ≡ self.old.at) × (self.new.slots ≡ slice_set self.old.slots index (Some item)) }
+        requires { HasEmptyPlace self.old base index }
+        ensures { ChangesPlace self.old self.new index (Some item) }
     {
         unsafe { base.ptr.add(index).write(item) }
     }
 
+    /// Takes the value out of the place at `index`.
     pub(crate) fn read(&mut self, base: Base<T>, index: usize) -> T
-        requires { (base.ptr ≡ self.old.at) × IsFilled self.old.slots index }
+        requires { HasFilledPlace self.old base index }
         ensures value { get_or self.old.slots index None ≡ Some result }
-        ensures slots { (self.new.at ≡ self.old.at) × (self.new.slots ≡ slice_set self.old.slots index None) }
+        ensures slots { ChangesPlace self.old self.new index None }
     {
         unsafe { base.ptr.add(index).read() }
     }
 
+    /// Lends the value in the place at `index`.
     pub(crate) fn get(&self, base: Base<T>, index: usize) -> &T
-        requires { (base.ptr ≡ self.now.at) × IsFilled self.now.slots index }
+        requires { HasFilledPlace self.now base index }
         ensures { get_or self.now.slots index None ≡ Some result.now }
     {
         unsafe { &*base.ptr.add(index) }

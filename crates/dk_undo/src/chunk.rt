@@ -1,7 +1,8 @@
 //! A chunk: a block of 64 places that is filled from the front and never moves.
 ghost use Rattle.std.specs.Prelude.{◌≡◌, ◌+◌, ◌<◌, [], ◌∷◌, ◌++◌, length, slice_get, Some, IfOk};
 
-use crate::cells::{Base, Cells, Deed, allocate, deallocate, fits_in_block};
+use crate::block::{allocate, deallocate, fits_in_block};
+use crate::cells::{Base, Cells, Deed};
 use std::alloc::{AllocError, Global};
 use std::marker::Model;
 
@@ -49,7 +50,8 @@ impl<T> Chunk<T> {
 
     /// Puts `item` behind the others, into the first empty place, which is the one at `index`.
     pub(crate) fn put(&mut self, index: usize, item: T)
-        requires { (index ≡ length self.old.items) × (index < 64) }
+        requires behind { index ≡ length self.old.items }
+        requires room { index < 64 }
         ensures items { self.new.items ≡ self.old.items ++ item ∷ [] }
         ensures place { self.new.place ≡ self.old.place }
     {

@@ -5,10 +5,11 @@
 //! oldest first, and as `spare`, the number of entries that there is room for.
 //!
 //! The entries lie in a chain of chunks, blocks of 64 places each. A chunk stays where it is until the stack ends, also
-//! when it is empty. The six functions of `cells` that touch raw memory are proved by hand, and all else is safe code
-//! over them. The crate stands on `std` alone.
+//! when it is empty. The six functions of `block` and `cells` that touch raw memory are proved by hand, and all
+//! else is safe code over them. The crate stands on `std` alone.
 #![tactic(auto)]
 
+mod block;
 mod cells;
 mod chain;
 mod chunk;

@@ -55,7 +55,8 @@ impl<T> UndoStack<T> {
         self.chunks.len() * CHUNK_LEN - self.len
     }
 
-    /// Takes memory until there is room for `n` more entries. It moves no entry. Where there is too little memory it gives back what it took.
+    /// Takes memory until there is room for `n` more entries, and moves no entry. Where memory is missing it gives back
+    /// what it took.
     pub fn reserve(&mut self, n: usize) -> Result<(), OutOfMemory>
         ensures room { OnOk result (n ≤ self.new.spare) }
         ensures ok { OnOk result (self.new ≡ stack self.old.entries (reserved self.old.spare n)) }

@@ -2,10 +2,10 @@ use Rattle.std.proofs.Common.{◌/◌, ◌%◌, [], ◌∷◌, ◌++◌, length,
 use Rattle.dk_undo.proofs.Packed.{packed-at, put-packed, places-set}
 use Rattle.dk_undo.proofs.chain.put_last.Goals as goal
 
-pub put-requires : goal.put-requires
-put-requires g c =
+pub put-requires-clause-behind : goal.put-requires-clause-behind
+put-requires-clause-behind g c =
     let n = c.args.len in let cs = c.args.chunks.now.items in let had = c.index_mut.result.now in let room = c.requires.room in
-    (sym (ap (λ h. length h.items) c.index_mut.ensures.value ∙ packed-at n (n / 64) (n % 64) cs had c.requires.packed (omega arith) (omega arith) (omega arith)), omega arith)
+    sym (ap (λ h. length h.items) c.index_mut.ensures.value ∙ packed-at n (n / 64) (n % 64) cs had c.requires.packed (omega arith) (omega arith) (omega arith))
 
 pub returns-clause-packed : goal.returns-clause-packed
 returns-clause-packed g c =

@@ -27,10 +27,10 @@ use denote.Triple.Entry.{on_entry}
 use denote.Triple.Spec.{Meets, triple_of}
 use denote.Triple.Table.{entered}
 use denote.Triple.Walked.{says, walk_of, ends_at, walked, walk_Meets}
-use Rattle.dk_undo.specs.contracts.cells.size_of_item as F
-use Rattle.dk_undo.specs.contracts.cells.size_of_item.Key.{name as #self}
-use Rattle.dk_undo.proofs.cells.size_of_item.Statement as stated
-use Rattle.dk_undo.proofs.cells.size_of_item.Code as code
+use Rattle.dk_undo.specs.contracts.block.size_of_item as F
+use Rattle.dk_undo.specs.contracts.block.size_of_item.Key.{name as #self}
+use Rattle.dk_undo.proofs.block.size_of_item.Statement as stated
+use Rattle.dk_undo.proofs.block.size_of_item.Code as code
 
 module _ (X : RattleType) where
   abbrev args : Args

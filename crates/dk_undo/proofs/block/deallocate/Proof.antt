@@ -62,10 +62,10 @@ use Rattle.dk_undo.proofs.Blocks.{uncapped, block_ty, block_size, block_align, a
 use Rattle.dk_undo.specs.Ownership.{deed_owns}
 use Rattle.dk_undo.proofs.Memory.{to_room}
 use Rattle.dk_undo.specs.contracts.cells.Deed as D-type
-use Rattle.dk_undo.specs.contracts.cells.deallocate as F
-use Rattle.dk_undo.specs.contracts.cells.deallocate.Key.{name as #self}
-use Rattle.dk_undo.proofs.cells.deallocate.Statement as stated
-use Rattle.dk_undo.proofs.cells.deallocate.Code as code
+use Rattle.dk_undo.specs.contracts.block.deallocate as F
+use Rattle.dk_undo.specs.contracts.block.deallocate.Key.{name as #self}
+use Rattle.dk_undo.proofs.block.deallocate.Statement as stated
+use Rattle.dk_undo.proofs.block.deallocate.Code as code
 
 module _ (E : El) (Z : Al) where
   abbrev function : Fn

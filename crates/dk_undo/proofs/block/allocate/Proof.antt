@@ -77,10 +77,10 @@ use Rattle.std.proofs.ResultValues.{ok_of, err_of}
 use Rattle.std.proofs.RcSteps.{first_Good}
 use Rattle.dk_undo.proofs.Memory.{three_val, three_of, of_room}
 use Rattle.dk_undo.specs.contracts.cells.Deed as D-type
-use Rattle.dk_undo.specs.contracts.cells.allocate as F
-use Rattle.dk_undo.specs.contracts.cells.allocate.Key.{name as #self}
-use Rattle.dk_undo.proofs.cells.allocate.Statement as stated
-use Rattle.dk_undo.proofs.cells.allocate.Code as code
+use Rattle.dk_undo.specs.contracts.block.allocate as F
+use Rattle.dk_undo.specs.contracts.block.allocate.Key.{name as #self}
+use Rattle.dk_undo.proofs.block.allocate.Statement as stated
+use Rattle.dk_undo.proofs.block.allocate.Code as code
 
 module _ (E : El) (Z : Al) where
   abbrev function : Fn
