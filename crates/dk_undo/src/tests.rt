@@ -70,7 +70,10 @@ fn ends_without_dropping(rt: HostRuntime) {
 #[test]
 fn stays_where_memory_is_missing(rt: HostRuntime) -> Result<(), Fail> {
     let mut stack = UndoStack::new(rt.alloc());
-    stack.reserve(70)?;
+    if stack.reserve(70).is_err() {
+        assert_eq!(rt; (stack.len(), stack.spare()), (0, 0));
+        return Ok(());
+    }
     push_numbers(&mut stack, 70);
     let refused = stack.reserve(1000).is_err();
     assert_eq!(rt;
