@@ -14,15 +14,6 @@ module _ {X : Type 0} where
   cut_end (x ∷ []) n h = ([], x, refl)
   cut_end (x ∷ y ∷ xs) n h = let on = cut_end (y ∷ xs) (length xs) (omega arith) in (x ∷ on.0, on.1, ap (λ l. x ∷ l) on.2)
 
-  pub same_end : (xs ys : List X) (x y : X) → xs ++ x ∷ [] ≡ ys ++ y ∷ [] → (xs ≡ ys) × (x ≡ y)
-  same_end [] [] x y e = (refl, cc)
-  same_end [] (b ∷ []) x y e = cc
-  same_end [] (b ∷ c ∷ ys) x y e = cc
-  same_end (a ∷ []) [] x y e = cc
-  same_end (a ∷ c ∷ xs) [] x y e = cc
-  same_end (a ∷ xs) (b ∷ ys) x y e =
-      let first : a ≡ b = cc in let rest : xs ++ x ∷ [] ≡ ys ++ y ∷ [] = cc in let on = same_end xs ys x y rest in (λ i. first i ∷ on.0 i, on.1)
-
   slice_get-last : (us : List X) (x : X) (i : ℕ) → i ≡ length us → slice_get (us ++ x ∷ []) i ≡ Some x
   slice_get-last [] x i e = rw e refl
   slice_get-last (y ∷ us) x zero e = absurd (omega arith)
@@ -34,11 +25,13 @@ module _ {X : Type 0} where
   item_at (x ∷ xs) zero h = (x, refl)
   item_at (x ∷ xs) (suc i) h = item_at xs i (omega arith)
 
+  -- an index within the first list
   pub slice_get-front : (xs ys : List X) (i : ℕ) → i < length xs → slice_get (xs ++ ys) i ≡ slice_get xs i
   slice_get-front [] ys i h = absurd (omega arith)
   slice_get-front (x ∷ xs) ys zero h = refl
   slice_get-front (x ∷ xs) ys (suc i) h = slice_get-front xs ys i (omega arith)
 
+  -- an index past the first list
   pub slice_get-behind : (xs ys : List X) (i j : ℕ) → i ≡ length xs + j → slice_get (xs ++ ys) i ≡ slice_get ys j
   slice_get-behind [] ys i j h = ap (slice_get ys) (omega arith)
   slice_get-behind (x ∷ xs) ys zero j h = absurd (omega arith)
@@ -56,9 +49,11 @@ module _ {X : Type 0} where
     abbrev xs : List X
     xs = somes a.cells.slots
 
+    -- a place holds the item at its index, if there is one
     pub place_holds : (i : ℕ) → get_or a.cells.slots i None ≡ slice_get xs i
     place_holds i = ap (λ cs. get_or cs i None) is.laid ∙ filled_at xs (64 - length xs) i
 
+    -- a chunk has 64 places
     pub length-slots : length a.cells.slots ≡ 64
     length-slots = let low = is.within in
         omega (arith, ap length is.laid, length-append (map Some xs) (replicate (64 - length xs) None), length-map xs (λ x. Some x), length-replicate {A = Option X} (64 - length xs) None)

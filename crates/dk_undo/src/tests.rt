@@ -17,6 +17,7 @@ fn push_numbers(stack: &mut UndoStack<u64>, count: u64)
 fn gives_entries_newest_first(rt: HostRuntime) -> Result<(), Fail> {
     let mut stack = UndoStack::new(rt.alloc());
     assert_eq!(rt; (stack.len(), stack.spare()), (0, 0));
+    assert_eq!(rt; stack.pop(), None);
     stack.reserve(130)?;
     assert_eq!(rt; stack.spare(), 192);
     push_numbers(&mut stack, 130);
