@@ -1,0 +1,7 @@
+pub mod Blocks
+pub mod Chunks
+pub mod Crosses
+pub mod Filled
+pub mod Memory
+pub mod Packed
+pub mod Sharing

@@ -1,0 +1,5 @@
+use Rattle.dk_undo.specs.Chain.{Grows}
+use Rattle.dk_undo.proofs.chain.add_chunks.Given as goal
+
+abbrev pub invariant-loop-added : goal.invariant-loop-added
+invariant-loop-added g l = Grows l.fn.chunks.items l.chunks.items l._added

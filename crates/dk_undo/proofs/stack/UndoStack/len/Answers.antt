@@ -1,0 +1,6 @@
+use Rattle.std.proofs.Common.{length, sym, ap, ◌∙◌}
+use Rattle.dk_undo.proofs.Packed.{length-entries}
+use Rattle.dk_undo.proofs.stack.UndoStack.len.Goals as goal
+
+pub returns : goal.returns
+returns g c = sym (length-entries _ _ c.self.invariant.packed) ∙ ap (λ s. length s.entries) c.self.view_is
