@@ -1,3 +1,5 @@
 pub mod Words
 pub mod Fields
-pub mod Tests
+pub mod Text
+pub mod Numbers
+pub mod Plain

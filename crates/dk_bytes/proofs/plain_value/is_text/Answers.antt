@@ -1,4 +1,4 @@
-use Rattle.dk_bytes.proofs.Tests.{tests_utf8}
+use Rattle.dk_bytes.proofs.Text.{tests_utf8}
 use Rattle.dk_bytes.proofs.plain_value.is_text.Goals as goal
 
 pub returns-clause-test : goal.returns-clause-test
