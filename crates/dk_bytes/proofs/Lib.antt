@@ -3,3 +3,4 @@ pub mod Fields
 pub mod Text
 pub mod Numbers
 pub mod Plain
+pub mod Same

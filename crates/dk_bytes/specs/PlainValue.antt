@@ -1,6 +1,7 @@
 -- The plain bytes of the values of each type.
 use Rattle.std.specs.Prelude.{ℕ, ◌<◌, ◌^◌, Bool, true, false, List, [], ◌∷◌, ◌++◌, length, Result, Ok, Err, FitsSigned, IsUtf8, nat_lt, ◌==◌, if◌then◌else◌}
-use Rattle.std.specs.Str.{is_utf8}
+use Rattle.std.specs.Str.{is_utf8, bytes_eq}
+use Rattle.std.specs.Ordering.{int_eq}
 use Rattle.std.specs.Int.{w8, w16, w32, w64, to_le_bytes, cast_signed, cast_unsigned}
 use Rattle.dk_types.specs.declared.value.ColType.{ColType}
 use Rattle.dk_types.specs.declared.value.ColType.TheVariants as types
@@ -20,6 +21,16 @@ IsPlain kind value = ⊥
 abbrev pub bit_byte : Bool → ℕ
 bit_byte false = 0
 bit_byte true = 1
+
+-- whether two values are one
+abbrev pub same : Value → Value → Bool
+same values.Null values.Null = true
+same (values.Bool a) (values.Bool b) = bit_byte a == bit_byte b
+same (values.Int m) (values.Int n) = int_eq m n
+same (values.Big m) (values.Big n) = int_eq m n
+same (values.Text s) (values.Text t) = bytes_eq s t
+same (values.Huge m) (values.Huge n) = int_eq m n
+same a b = false
 
 -- a byte 0 or 1; two's complement in four or eight bytes; a text behind its length in two bytes
 abbrev pub plain_bytes : Value → List ℕ

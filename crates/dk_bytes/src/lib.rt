@@ -14,7 +14,7 @@ mod sum;
 mod word;
 
 pub use cursor::{Cursor, Short};
-pub use plain_value::{is_same, plain_len, put_value, read_value};
+pub use plain_value::{copy_value, is_same, plain_len, put_value, read_value};
 pub use put::{put_u8, put_u16, put_u32, put_u64};
 pub use segment_error::SegError;
 pub use sum::checksum;

@@ -3,7 +3,7 @@ ghost use Rattle.std.specs.Int.{to_le_bytes, w16};
 ghost use Rattle.std.specs.Str.{is_utf8};
 ghost use Rattle.dk_bytes.specs.Fields.{Passes};
 ghost use Rattle.dk_bytes.specs.Reading.{Gives};
-ghost use Rattle.dk_bytes.specs.PlainValue.{IsPlain, plain_bytes, value_at, bool_at, int_at, big_at, text_at};
+ghost use Rattle.dk_bytes.specs.PlainValue.{IsPlain, same, plain_bytes, value_at, bool_at, int_at, big_at, text_at};
 
 use crate::cursor::Cursor;
 use crate::put::{put_u8, put_u16, put_u32, put_u64};
@@ -12,8 +12,10 @@ use dk_types::{ColType, List, OutOfMemory, Value};
 use std::alloc::Global;
 
 /// Whether two values are the same one.
+#[tactic(auto, using(crate::proofs::Same::tests_same))]
 pub fn is_same(one: &Value, other: &Value) -> bool
-    ensures { IsTrue result ↔ (one.now ≡ other.now) }
+    ensures fact { IsTrue result ↔ (one.now ≡ other.now) }
+    ensures test { result ≡ same one.now other.now }
 {
     one == other
 }
@@ -82,6 +84,20 @@ fn put_text(out: &mut Vec<u8>, text: &[u8]) -> Result<(), OutOfMemory>
         out.truncate(start);
     }
     put
+}
+
+/// An equal value. Only a text takes memory.
+pub fn copy_value(alloc: Global, value: &Value) -> Result<Value, OutOfMemory>
+    ensures { IfOk result (λ copied. copied ≡ value.now) }
+{
+    match value {
+        Value::Text(text) => Ok(Value::Text(List::from_vec(Vec::from_slice(alloc, text.as_slice())?))),
+        Value::Null => Ok(Value::Null),
+        Value::Bool(truth) => Ok(Value::Bool(*truth)),
+        Value::Int(number) => Ok(Value::Int(*number)),
+        Value::Big(number) => Ok(Value::Big(*number)),
+        Value::Huge(number) => Ok(Value::Huge(*number)),
+    }
 }
 
 /// Reads the plain bytes of a value. Where it fails the cursor may stand behind fields that were read.
