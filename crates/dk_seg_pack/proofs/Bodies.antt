@@ -15,7 +15,7 @@ pub map_twice : {A : Type 0} (f : A → ℕ) (g : ℕ → ℕ) (xs : List A) →
 map_twice f g [] = refl
 map_twice f g (x ∷ xs) = ap (λ (ys : List ℕ). g (f x) ∷ ys) (map_twice f g xs)
 
-map_length : {A B : Type 0} (f : A → B) (xs : List A) → length (map f xs) ≡ length xs
+pub map_length : {A B : Type 0} (f : A → B) (xs : List A) → length (map f xs) ≡ length xs
 map_length f [] = refl
 map_length f (x ∷ xs) = let ih = map_length f xs in omega (arith, ih)
 

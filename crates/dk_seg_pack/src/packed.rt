@@ -117,6 +117,8 @@ fn differences(alloc: Global, values: &[Value], base: u64) -> Result<Vec<u64>, O
 
 /// The `count` values that a body stands for.
 pub fn decode(alloc: Global, bytes: &[u8], kind: ColType, count: usize) -> Result<Vec<Value>, SegError>
+    ensures found { IfOk result (λ v. (length v.items ≡ count) × IsPacked kind v.items × (bytes.now ≡ packed_bytes v.items)) }
+    ensures only { (values : List Value) → length values ≡ count → IsPacked kind values → bytes.now ≡ packed_bytes values → Gives (λ v. v.items) result (Ok values) }
     ensures place { Gives (λ v. v.items) result (packed_at kind count bytes.now) }
 {
     read(alloc, bytes, kind, count)
