@@ -8,3 +8,5 @@
 pub mod constant;
 mod copies;
 pub mod run_length;
+#[cfg(test)]
+mod tests;
