@@ -1,0 +1,5 @@
+pub mod Words
+pub mod Digits
+pub mod Packing
+pub mod Widths
+pub mod Bodies
