@@ -4,3 +4,4 @@ pub mod Text
 pub mod Numbers
 pub mod Plain
 pub mod Same
+pub mod Outcome

@@ -1,5 +1,5 @@
 -- The test whether two values are one.
-use Rattle.std.proofs.Common.{◌≡◌, ℕ, ℤ, Bool, true, false, List, refl, sym, ap, ◌∙◌, IsTrue, ◌↔◌, eqb}
+use Rattle.std.proofs.Common.{◌≡◌, Bool, true, false, refl, ap, IsTrue, ◌↔◌}
 use Rattle.std.specs.Str.{bytes_eq}
 use Rattle.std.specs.Ordering.{int_eq}
 use Rattle.std.specs.Bool.{Decides}
@@ -7,7 +7,7 @@ use Rattle.std.proofs.lemmas.Bool.Decides.{Decides-int_eq, Decides-like, same_fr
 use Rattle.std.proofs.lemmas.Slice.Eq.{bytes_eq-Decides}
 use Rattle.dk_types.specs.declared.value.Value.{Value}
 use Rattle.dk_types.specs.declared.value.Value.TheVariants as values
-use Rattle.dk_bytes.specs.PlainValue.{same, bit_byte}
+use Rattle.dk_bytes.specs.PlainValue.{same}
 
 pub Decides-same : (a b : Value) → Decides (same a b) (a ≡ b)
 Decides-same values.Null values.Null = (λ _. refl, λ _. refl)

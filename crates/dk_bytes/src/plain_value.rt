@@ -1,4 +1,4 @@
-ghost use Rattle.std.specs.Prelude.{◌≡◌, ◌+◌, ◌++◌, ◌<◌, ◌^◌, ◌↔◌, true, [], ◌∷◌, length, Ok, IsTrue, IsSome, IfSome, IsUtf8, IfOk, OnOk, OnErr};
+ghost use Rattle.std.specs.Prelude.{◌≡◌, ◌+◌, ◌++◌, ◌<◌, ◌≤◌, ◌^◌, ◌↔◌, true, [], ◌∷◌, length, Ok, IsTrue, IsSome, IfSome, IsUtf8, IfOk, OnOk, OnErr};
 ghost use Rattle.std.specs.Int.{to_le_bytes, w16};
 ghost use Rattle.std.specs.Str.{is_utf8};
 ghost use Rattle.dk_bytes.specs.Fields.{Passes};
@@ -24,6 +24,7 @@ pub fn is_same(one: &Value, other: &Value) -> bool
 pub fn plain_len(value: &Value, kind: ColType) -> Option<usize>
     ensures held { IsSome result ↔ IsPlain kind value.now }
     ensures length { IfSome result (λ n. n ≡ length (plain_bytes value.now)) }
+    ensures small { IfSome result (λ n. n ≤ 65537) }
 {
     match (kind, value) {
         (ColType::Bool, Value::Bool(_)) => Some(1),
@@ -43,6 +44,7 @@ pub fn plain_len(value: &Value, kind: ColType) -> Option<usize>
 fn text_len(text: &[u8]) -> Option<usize>
     ensures held { IsSome result ↔ ((length text.now < 2 ^ 16) × IsUtf8 text.now) }
     ensures length { IfSome result (λ n. n ≡ 2 + length text.now) }
+    ensures small { IfSome result (λ n. n ≤ 65537) }
 {
     if text.len() > u16::MAX as usize || !is_text(text) {
         return None;
@@ -91,7 +93,10 @@ pub fn copy_value(alloc: Global, value: &Value) -> Result<Value, OutOfMemory>
     ensures { IfOk result (λ copied. copied ≡ value.now) }
 {
     match value {
-        Value::Text(text) => Ok(Value::Text(List::from_vec(Vec::from_slice(alloc, text.as_slice())?))),
+        Value::Text(text) => Ok(Value::Text(List::from_vec(Vec::from_slice(
+            alloc,
+            text.as_slice(),
+        )?))),
         Value::Null => Ok(Value::Null),
         Value::Bool(truth) => Ok(Value::Bool(*truth)),
         Value::Int(number) => Ok(Value::Int(*number)),

@@ -1,13 +1,12 @@
-// A library with one function.
+//! Bodies of column segments that repeat values: one value that all are, and runs of equal neighbours.
+//!
+//! For each encoding `specs/` says which values it holds, which bytes are their body, and which fault of other bytes is
+//! the first. `size` is the body's length, `encode` appends the body, `decode` reads it again and refuses all else.
+//! Stands on `dk_bytes` for fields and plain values, and on `dk_types`.
 #![tactic(auto)]
 
-ghost use Rattle.std.specs.Prelude.{◌≡◌};
-ghost use Rattle.dk_seg_run.specs.Echo.{echo_of};
-
-// The `ensures` clause is the contract: what `echo` returns is `echo_of` of its argument, a definition
-// in `specs/Echo.antt`, which a caller's clause can cite too.
-pub fn echo(x: usize) -> usize
-    ensures { result ≡ echo_of x }
-{
-    x
-}
+pub mod constant;
+mod copies;
+pub mod run_length;
+#[cfg(test)]
+mod tests;
