@@ -1,0 +1,69 @@
+ghost use Rattle.std.specs.Prelude.{◌≡◌, map, IfOk};
+ghost use Rattle.std.specs.List.{list_all};
+ghost use Rattle.dk_segment.specs.Segment.{is_present, present, flag_of, flags_of, with_nulls};
+
+use dk_bytes::copy_value;
+use dk_types::{OutOfMemory, Value};
+use std::alloc::Global;
+
+pub(crate) fn is_present(value: &Value) -> bool
+    ensures { result ≡ is_present value.now }
+{
+    match value {
+        Value::Null => false,
+        _ => true,
+    }
+}
+
+pub(crate) fn are_present(values: &[Value]) -> bool
+    ensures { result ≡ list_all is_present values.now }
+{
+    values.iter().all(is_present)
+}
+
+/// Copies of the values that are present.
+pub(crate) fn present_values(alloc: Global, values: &[Value]) -> Result<Vec<Value>, OutOfMemory>
+    ensures { IfOk result (λ copies. copies.items ≡ present values.now) }
+{
+    let mut copies = Vec::new(alloc);
+    'values: for value in values {
+        if is_present(value) {
+            copies.push(copy_value(alloc, value)?)?;
+        }
+    }
+    Ok(copies)
+}
+
+/// A number 1 for each value that is present, and 0 for each null.
+pub(crate) fn flags_of(alloc: Global, values: &[Value]) -> Result<Vec<u64>, OutOfMemory>
+    ensures { IfOk result (λ flags. flags.items ≡ flags_of values.now) }
+{
+    values.iter().map(flag_of).collect(alloc)
+}
+
+fn flag_of(value: &Value) -> u64
+    ensures { result ≡ flag_of value.now }
+{
+    if is_present(value) { 1 } else { 0 }
+}
+
+/// The present values at their places, and nulls between them.
+pub(crate) fn with_nulls(
+    alloc: Global,
+    flags: &[u64],
+    present: Vec<Value>,
+) -> Result<Vec<Value>, OutOfMemory>
+    ensures { IfOk result (λ values. values.items ≡ with_nulls flags.now present.items) }
+{
+    let mut values = Vec::with_capacity(alloc, flags.len())?;
+    let mut rest = present.into_iter();
+    'flags: for flag in flags {
+        let value = if *flag == 1 {
+            rest.next().unwrap_or(Value::Null)
+        } else {
+            Value::Null
+        };
+        values.push(value)?;
+    }
+    Ok(values)
+}
