@@ -1,1 +1,4 @@
 pub mod BodyLaws
+pub mod NullLaws
+pub mod ChoiceLaws
+pub mod SegmentLaws

@@ -1,10 +1,10 @@
 -- Which bytes are a segment, and of which values.
-use Rattle.std.specs.Prelude.{◌≡◌, ℕ, ◌+◌, ◌*◌, ◌≤◌, Bool, true, false, ◌&&◌, ◌||◌, not, List, [], ◌∷◌, ◌++◌, length, map, filter, count_by, Option, Some, None, Result, Ok, Err, ◌==◌, nat_lt, nat_le, if◌then◌else◌}
+use Rattle.std.specs.Prelude.{◌≡◌, ℕ, ◌+◌, ◌-◌, ◌*◌, ◌^◌, ◌≤◌, min, Bool, true, false, ◌&&◌, ◌||◌, not, List, [], ◌∷◌, ◌++◌, length, map, filter, count_by, Option, Some, None, Result, Ok, Err, ◌==◌, nat_lt, nat_le, if◌then◌else◌}
 use Rattle.std.specs.List.{AllByRecursion, list_all, list_any}
 use Rattle.std.specs.Int.{w8, w32, to_le_bytes}
 use Rattle.dk_types.specs.declared.value.ColType.{ColType}
 use Rattle.dk_types.specs.declared.value.Value.{Value}
-use Rattle.dk_types.specs.declared.value.Value.TheVariants as values
+use Rattle.dk_types.specs.declared.value.Value.TheVariants as cell
 use Rattle.dk_bytes.specs.Fields.{Place, bytes_at, number_at}
 use Rattle.dk_bytes.specs.PlainValue.{IsPlain}
 use Rattle.dk_bytes.specs.Reading.{◌>>=◌, start}
@@ -16,7 +16,7 @@ use Rattle.dk_segment.specs.Bodies.{Holds, body_of, body_at, code_of, encoding_o
 -- ---- values with nulls among them
 
 abbrev pub is_present : Value → Bool
-is_present values.Null = false
+is_present cell.Null = false
 is_present value = true
 
 abbrev pub present : List Value → List Value
@@ -24,7 +24,7 @@ present values = filter is_present values
 
 -- null, or a value of the type
 abbrev pub IsCell : ColType → Value → Type 0
-IsCell kind values.Null = Unit {0}
+IsCell kind cell.Null = Unit {0}
 IsCell kind value = IsPlain kind value
 
 -- what a segment can hold: 1 to 2,048 values, each null or of the type
@@ -45,13 +45,13 @@ abbrev pub ones : List ℕ → ℕ
 ones flags = count_by (λ flag. flag == 1) flags
 
 abbrev pub placed : List Value → (List Value → List Value) → List Value
-placed [] others = values.Null ∷ others []
+placed [] others = cell.Null ∷ others []
 placed (value ∷ values) others = value ∷ others values
 
 -- the present values at their places, and nulls between them
 abbrev pub with_nulls : List ℕ → List Value → List Value
 with_nulls [] values = []
-with_nulls (flag ∷ flags) values = if flag == 1 then placed values (with_nulls flags) else values.Null ∷ with_nulls flags values
+with_nulls (flag ∷ flags) values = if flag == 1 then placed values (with_nulls flags) else cell.Null ∷ with_nulls flags values
 
 -- ---- the bytes
 
@@ -102,10 +102,10 @@ flags_at encoding count place = do
   flags ← or_fault place.at (mask_of encoding (numbers_in 1 count bytes.0))
   Ok (flags, bytes.1)
 
--- a reading that begins so many bytes behind the start
+-- a reading that begins so many bytes behind the start; a place has 64 bits
 abbrev pub moved : {A : Type 0} → ℕ → Result A ℕ → Result A ℕ
 moved n (Ok x) = Ok x
-moved n (Err at) = Err (n + at)
+moved n (Err at) = Err (min (n + at) (2 ^ 64 - 1))
 
 unfoldable pub masked_at : Encoding → ColType → ℕ → Place → Result (List Value) ℕ
 masked_at encoding kind count place = do

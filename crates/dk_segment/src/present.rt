@@ -1,4 +1,4 @@
-ghost use Rattle.std.specs.Prelude.{◌≡◌, map, IfOk};
+ghost use Rattle.std.specs.Prelude.{◌≡◌, true, map, IfOk};
 ghost use Rattle.std.specs.List.{list_all};
 ghost use Rattle.dk_segment.specs.Segment.{is_present, present, flag_of, flags_of, with_nulls};
 
@@ -15,10 +15,18 @@ pub(crate) fn is_present(value: &Value) -> bool
     }
 }
 
-pub(crate) fn are_present(values: &[Value]) -> bool
+fn all_pass(values: &[Value]) -> bool
     ensures { result ≡ list_all is_present values.now }
 {
     values.iter().all(is_present)
+}
+
+/// Whether no null is among the values.
+pub(crate) fn are_present(values: &[Value]) -> bool
+    ensures test { result ≡ list_all is_present values.now }
+    ensures same { result ≡ true → present values.now ≡ values.now }
+{
+    all_pass(values)
 }
 
 /// Copies of the values that are present.

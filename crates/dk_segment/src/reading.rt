@@ -93,7 +93,7 @@ fn read_behind(
     let left = cursor.left();
     let bytes = cursor.take(left)?;
     match read_body(alloc, encoding, bytes, kind, count) {
-        Err(SegError::Malformed { at }) => Err(SegError::Malformed { at: start + at }),
+        Err(SegError::Malformed { at }) => Err(SegError::Malformed { at: start.saturating_add(at) }),
         read => read,
     }
 }
@@ -106,6 +106,7 @@ fn read_masked(
     kind: ColType,
     count: usize,
 ) -> Result<Vec<Value>, SegError>
+    requires { count < 2 ^ 32 }
     ensures { Gives (λ v. v.items) result (masked_at encoding kind count cursor.old) }
 {
     let flags = read_flags(alloc, cursor, encoding, count)?;
