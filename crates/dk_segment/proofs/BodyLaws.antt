@@ -1,5 +1,5 @@
 -- What holds of the body of every encoding.
-use Rattle.std.proofs.Common.{◌≡◌, ℕ, zero, suc, ◌+◌, ◌<◌, ◌≤◌, Bool, true, false, List, [], ◌∷◌, ◌++◌, length, Result, Ok, Err, refl, sym, ap, subst, ◌∙◌, arith, replicate, cond, eqb}
+use Rattle.std.proofs.Common.{◌≡◌, ℕ, zero, suc, ◌+◌, ◌^◌, ◌<◌, ◌≤◌, Bool, true, false, List, [], ◌∷◌, ◌++◌, length, Result, Ok, Err, refl, sym, ap, subst, ◌∙◌, arith, replicate, cond, eqb}
 use Rattle.std.specs.Prelude.{All}
 use Rattle.std.specs.List.{AllByRecursion, flat_map}
 use Rattle.std.proofs.lemmas.List.Elements.{recursion_from_All}
@@ -24,12 +24,12 @@ pub record IsBodyOf (encoding : Encoding) (kind : ColType) (count : ℕ) (bytes 
   pub holds : Holds encoding kind values
   pub told : bytes ≡ body_of encoding values
 
-pub body_found : (encoding : Encoding) (kind : ColType) (count : ℕ) (bytes : List ℕ) (values : List Value) → IsBytes bytes → body_at encoding kind count bytes ≡ Ok values → IsBodyOf encoding kind count bytes values
-body_found Constant kind count bytes values fits e = let b = constants.body_found kind count bytes values fits e in record { total = b.total; holds = b.constant; told = b.told }
-body_found RunLength kind count bytes values fits e = let b = runs.body_found kind count bytes values fits e in record { total = b.total; holds = b.runs; told = b.told }
-body_found Packed kind count bytes values fits e = let b = packs.body_taken kind count bytes values fits e in record { total = b.0; holds = b.1; told = b.2 }
-body_found Dictionary kind count bytes values fits e = absurd cc
-body_found Plain kind count bytes values fits e = ?
+pub body_found : (encoding : Encoding) (kind : ColType) (count : ℕ) (bytes : List ℕ) (values : List Value) → IsBytes bytes → length bytes < 2 ^ 64 → body_at encoding kind count bytes ≡ Ok values → IsBodyOf encoding kind count bytes values
+body_found Constant kind count bytes values fits small e = let b = constants.body_found kind count bytes values fits e in record { total = b.total; holds = b.constant; told = b.told }
+body_found RunLength kind count bytes values fits small e = let b = runs.body_found kind count bytes values fits e in record { total = b.total; holds = b.runs; told = b.told }
+body_found Packed kind count bytes values fits small e = let b = packs.body_taken kind count bytes values fits e in record { total = b.0; holds = b.1; told = b.2 }
+body_found Dictionary kind count bytes values fits small e = absurd cc
+body_found Plain kind count bytes values fits small e = ?
 
 pub body_only : (encoding : Encoding) (kind : ColType) (count : ℕ) (bytes : List ℕ) (values : List Value) → length values ≡ count → Holds encoding kind values → bytes ≡ body_of encoding values → body_at encoding kind count bytes ≡ Ok values
 body_only Constant kind count bytes values len h e = constants.body_only kind count bytes values len h e

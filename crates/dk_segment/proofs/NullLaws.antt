@@ -89,7 +89,7 @@ made_null flags values all m = record { flags_told = ap (λ (l : List ℕ). 0 �
 made_value : (flags : List ℕ) (value : Value) (values all : List Value) → is_present value ≡ true → IsMadeOf flags values all → IsMadeOf (1 ∷ flags) (value ∷ values) (value ∷ all)
 made_value flags value values all p m = record {
   flags_told = rw p (ap (λ (l : List ℕ). 1 ∷ l) m.flags_told);
-  present_told = rw p (ap (λ (l : List Value). value ∷ l) m.present_told)
+  present_told = rw p (ap (λ (l : List Value). value ∷ l) m.present_told);
 }
 
 pub made_of : (kind : ColType) (flags : List ℕ) (values : List Value) → AllByRecursion (λ flag. flag < 2 ^ 1) flags → AllByRecursion (IsPlain kind) values → ones flags ≡ length values → IsMadeOf flags values (with_nulls flags values)

@@ -14,5 +14,6 @@ mod writing;
 
 pub use choice::analyse;
 pub use encoding::Encoding;
+pub use present::is_column;
 pub use reading::decode;
 pub use writing::encode;

@@ -1,10 +1,13 @@
-ghost use Rattle.std.specs.Prelude.{◌≡◌, true, map, IfOk};
-ghost use Rattle.std.specs.List.{list_all};
-ghost use Rattle.dk_segment.specs.Segment.{is_present, present, flag_of, flags_of, with_nulls};
+ghost use Rattle.std.specs.Prelude.{◌≡◌, ◌↔◌, true, map, IsTrue, IfOk};
+ghost use Rattle.std.specs.List.{AllByRecursion, list_all};
+ghost use Rattle.dk_segment.specs.Segment.{IsCell, IsColumn, is_present, present, flag_of, flags_of, with_nulls};
 
-use dk_bytes::copy_value;
-use dk_types::{OutOfMemory, Value};
+use dk_bytes::{copy_value, plain_len};
+use dk_types::{ColType, OutOfMemory, Value};
 use std::alloc::Global;
+
+/// The most values of a segment.
+pub(crate) const MAX_VALUES: usize = 2048;
 
 pub(crate) fn is_present(value: &Value) -> bool
     ensures { result ≡ is_present value.now }
@@ -27,6 +30,33 @@ pub(crate) fn are_present(values: &[Value]) -> bool
     ensures same { result ≡ true → present values.now ≡ values.now }
 {
     all_pass(values)
+}
+
+fn is_cell(value: &Value, kind: ColType) -> bool
+    ensures { IsTrue result ↔ IsCell kind value.now }
+{
+    match value {
+        Value::Null => true,
+        value => plain_len(value, kind).is_some(),
+    }
+}
+
+fn are_cells(values: &[Value], kind: ColType) -> bool
+    ensures { IsTrue result ↔ AllByRecursion (IsCell kind) values.now }
+{
+    'values: for value in values {
+        if !is_cell(value, kind) {
+            return false;
+        }
+    }
+    true
+}
+
+/// Whether a segment can hold the values: 1 to 2,048 of them, each null or of the type.
+pub fn is_column(values: &[Value], kind: ColType) -> bool
+    ensures { IsTrue result ↔ IsColumn kind values.now }
+{
+    !values.is_empty() && values.len() <= MAX_VALUES && are_cells(values, kind)
 }
 
 /// Copies of the values that are present.

@@ -8,14 +8,11 @@ ghost use Rattle.dk_segment.specs.Segment.{IsSegment, ones, encoding_at, flag_at
 
 use crate::bodies::read_body;
 use crate::encoding::{Encoding, encoding_of};
-use crate::present::with_nulls;
+use crate::present::{MAX_VALUES, with_nulls};
 use dk_bytes::{Cursor, SegError};
 use dk_seg_pack::numbers::unpack;
 use dk_types::{ColType, Value};
 use std::alloc::Global;
-
-/// The most values of a segment.
-const MAX_VALUES: u32 = 2048;
 
 /// The values that the bytes stand for as a segment of the type.
 pub fn decode(alloc: Global, bytes: &[u8], kind: ColType) -> Result<Vec<Value>, SegError>
@@ -72,7 +69,7 @@ fn read_count(cursor: &mut Cursor) -> Result<u32, SegError>
 {
     let at = cursor.at();
     let count = cursor.u32()?;
-    if 1 <= count && count <= MAX_VALUES {
+    if 1 <= count && count as usize <= MAX_VALUES {
         Ok(count)
     } else {
         Err(SegError::Malformed { at })
@@ -93,7 +90,9 @@ fn read_behind(
     let left = cursor.left();
     let bytes = cursor.take(left)?;
     match read_body(alloc, encoding, bytes, kind, count) {
-        Err(SegError::Malformed { at }) => Err(SegError::Malformed { at: start.saturating_add(at) }),
+        Err(SegError::Malformed { at }) => Err(SegError::Malformed {
+            at: start.saturating_add(at),
+        }),
         read => read,
     }
 }
