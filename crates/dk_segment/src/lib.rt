@@ -17,3 +17,6 @@ pub use encoding::Encoding;
 pub use present::is_column;
 pub use reading::decode;
 pub use writing::encode;
+
+#[cfg(test)]
+mod tests;

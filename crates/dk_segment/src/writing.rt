@@ -4,7 +4,7 @@ ghost use Rattle.std.specs.Int.{w32, to_le_bytes};
 ghost use Rattle.dk_segment.specs.declared.encoding.Encoding.{Encoding};
 ghost use Rattle.dk_segment.specs.Bodies.{Holds, body_of, code_of};
 ghost use Rattle.dk_segment.specs.Choice.{IsBest};
-ghost use Rattle.dk_segment.specs.Segment.{IsColumn, is_present, present, mask_flag, mask_bytes, segment_bytes};
+ghost use Rattle.dk_segment.specs.Segment.{IsColumn, is_present, present, mask_flag, mask_bytes, segment_bytes, IsSegment};
 
 use crate::bodies::put_body;
 use crate::choice::best;
@@ -18,7 +18,7 @@ use std::alloc::Global;
 /// The segment of these values in the encoding of least size.
 pub fn encode(alloc: Global, values: &[Value], kind: ColType) -> Result<Vec<u8>, OutOfMemory>
     requires { IsColumn kind values.now }
-    ensures { IfOk result (λ v. (encoding : Encoding) × IsBest kind (present values.now) encoding × (v.items ≡ segment_bytes encoding values.now)) }
+    ensures { IfOk result (λ v. (encoding : Encoding) × IsBest kind (present values.now) encoding × IsSegment kind encoding values.now v.items) }
 {
     if are_present(values) {
         return spelled(alloc, values, values, kind);
@@ -35,7 +35,7 @@ fn spelled(
 ) -> Result<Vec<u8>, OutOfMemory>
     requires column { IsColumn kind values.now }
     requires presents { presents.now ≡ present values.now }
-    ensures { IfOk result (λ v. (encoding : Encoding) × IsBest kind (present values.now) encoding × (v.items ≡ segment_bytes encoding values.now)) }
+    ensures { IfOk result (λ v. (encoding : Encoding) × IsBest kind (present values.now) encoding × IsSegment kind encoding values.now v.items) }
 {
     let encoding = best(presents, kind);
     spell(alloc, encoding, values, presents, kind)
