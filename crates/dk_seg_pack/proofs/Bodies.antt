@@ -59,7 +59,7 @@ fields_joined values ds base base' width out out1 out2 out3 e e' f g p q r =
     let base_is : base' ≡ half_turned (least (map rank_of values)) = e' ∙ ap half_turned e in
     let first : to_le_bytes w64 base' ≡ to_le_bytes w64 (half_turned (least (map rank_of values))) = ap (to_le_bytes w64) base_is in
     let second : width ∷ packed width ds ≡ width_of (map rank_of values) ∷ packed (width_of (map rank_of values)) (differences (map rank_of values)) =
-        ap (λ (w : ℕ). w ∷ packed w ds) f ∙ ap (λ (xs : List ℕ). width_of (map rank_of values) ∷ packed (width_of (map rank_of values)) xs) same in
+    ap (λ (w : ℕ). w ∷ packed w ds) f ∙ ap (λ (xs : List ℕ). width_of (map rank_of values) ∷ packed (width_of (map rank_of values)) xs) same in
     three_joined out (to_le_bytes w64 base') (width ∷ []) (packed width ds) out1 out2 out3 p q r
     ∙ ap (λ (xs : List ℕ). out ++ (xs ++ (width ∷ packed width ds))) first
     ∙ ap (λ (xs : List ℕ). out ++ (to_le_bytes w64 (half_turned (least (map rank_of values))) ++ xs)) second
@@ -73,7 +73,7 @@ kept_then old mid new h k =
     let whole : new ≡ mid ++ drop (length mid) new = sym (take-append-drop (length mid) new) ∙ ap (λ (xs : List ℕ). xs ++ drop (length mid) new) k in
     let front : mid ≡ old ++ drop (length old) mid = sym (take-append-drop (length old) mid) ∙ ap (λ (xs : List ℕ). xs ++ drop (length old) mid) h in
     let both : new ≡ old ++ (drop (length old) mid ++ drop (length mid) new) =
-        whole ∙ ap (λ (xs : List ℕ). xs ++ drop (length mid) new) front ∙ append_assoc old (drop (length old) mid) (drop (length mid) new) in
+    whole ∙ ap (λ (xs : List ℕ). xs ++ drop (length mid) new) front ∙ append_assoc old (drop (length old) mid) (drop (length mid) new) in
     ap (take (length old)) both ∙ kept_in_front old (drop (length old) mid ++ drop (length mid) new)
 
 -- two fields that were appended, and what was appended behind them

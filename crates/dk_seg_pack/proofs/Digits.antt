@@ -101,7 +101,7 @@ pub front_bytes : (n x : ℕ) → n ≤ 8 → take n (to_le_bytes w64 x) ≡ dig
 front_bytes n x h =
     let count : n + (8 - n) ≡ 8 = omega arith in
     let all : to_le_bytes w64 x ≡ digits 256 n x ++ digits 256 (8 - n) (x / 2 ^ (8 * n)) =
-        word_bytes x ∙ ap (λ k. digits 256 k x) (sym count) ∙ digits-add 8 n (8 - n) x in
+    word_bytes x ∙ ap (λ k. digits 256 k x) (sym count) ∙ digits-add 8 n (8 - n) x in
     let len = length-digits 256 n x in
     rw (all, take-append-le n (digits 256 n x) (digits 256 (8 - n) (x / 2 ^ (8 * n))) (omega arith)) (take_all n (digits 256 n x) (omega arith))
 

@@ -1,5 +1,5 @@
 -- What was written is read again, and what was read is what is written.
-use Rattle.std.proofs.Common.{◌≡◌, ℕ, zero, suc, ◌+◌, ◌-◌, ◌*◌, ◌/◌, ◌%◌, ◌<◌, ◌≤◌, ◌^◌, Bool, true, false, ◌||◌, ◌==◌, min, max, fold, map, List, [], ◌∷◌, ◌++◌, length, take, get_or, Option, Some, None, refl, ap, sym, ◌∙◌, subst, arith, inl, inr, ◌⊎◌}
+use Rattle.std.proofs.Common.{◌≡◌, ℕ, suc, ◌+◌, ◌-◌, ◌*◌, ◌/◌, ◌%◌, ◌<◌, ◌≤◌, ◌^◌, Bool, true, false, ◌||◌, ◌==◌, min, max, fold, map, List, [], ◌∷◌, length, Option, Some, None, refl, ap, sym, ◌∙◌, subst, arith, inl, inr, ◌⊎◌}
 use Rattle.std.specs.List.{AllByRecursion, list_any}
 use Rattle.std.specs.Simd.Lanes.{number_l as number, digits_l as digits}
 use Rattle.std.proofs.Math.Nat.{pow-le-pow_right, mod-eq_of_lt, div-eq_of_lt}
@@ -10,9 +10,9 @@ use Rattle.dk_types.specs.declared.value.Value.{Value}
 use Rattle.dk_bytes.specs.PlainValue.{IsPlain}
 use Rattle.dk_bytes.proofs.Numbers.{IsBytes}
 use Rattle.dk_seg_pack.specs.Bits.{byte_count, packed, unpacked, numbers_in}
-use Rattle.dk_seg_pack.specs.Packed.{rank_of, value_of_rank, least, greatest, differences, width_of, with_value, values_above, IsNumeric}
+use Rattle.dk_seg_pack.specs.Packed.{rank_of, value_of_rank, least, greatest, differences, with_value, values_above, IsNumeric}
 use Rattle.dk_seg_pack.proofs.Digits.{length-digits, number-digits, digits-number, number_below}
-use Rattle.dk_seg_pack.proofs.Ranks.{HasRank, chosen, rank_below, value_again, value_taken}
+use Rattle.dk_seg_pack.proofs.Ranks.{chosen, rank_below, value_again, value_taken}
 
 -- so many bits lie in so many bytes
 enough_bytes : (bits : ℕ) → bits ≤ 8 * byte_count bits

@@ -24,7 +24,7 @@ above_word n word above h =
     let low : (word + 2 ^ 64 * above) % 2 ^ 64 ≡ word = omega arith in
     let high : (word + 2 ^ 64 * above) / 2 ^ 64 ≡ above = omega arith in
     let front : digits 256 8 (word + 2 ^ 64 * above) ≡ digits 256 8 word =
-        sym (digits-mod 8 8 8 (word + 2 ^ 64 * above) (omega arith)) ∙ ap (λ (x : ℕ). digits 256 8 x) low in
+    sym (digits-mod 8 8 8 (word + 2 ^ 64 * above) (omega arith)) ∙ ap (λ (x : ℕ). digits 256 8 x) low in
     digits-add 8 8 n (word + 2 ^ 64 * above)
     ∙ ap (λ (bytes : List ℕ). bytes ++ digits 256 n ((word + 2 ^ 64 * above) / 2 ^ 64)) (front ∙ sym (word_bytes word))
     ∙ ap (λ (x : ℕ). to_le_bytes w64 word ++ digits 256 n x) high
@@ -36,7 +36,7 @@ behind_word bits count width n word bits' count' h e f numbers =
     let len : byte_count (count + width * suc (length numbers)) ≡ 8 + byte_count (count' + width * length numbers) = omega (arith, mul-suc width (length numbers)) in
     let power : 2 ^ (count + width) ≡ 2 ^ 64 * 2 ^ count' = ap (λ (k : ℕ). 2 ^ k) (sym f) ∙ pow-add 2 count' 64 ∙ omega arith in
     let all : bits + 2 ^ count * (n + 2 ^ width * others) ≡ word + 2 ^ 64 * (bits' + 2 ^ count' * others) =
-        sym (together bits count width n others) ∙ rw (power, ← e) (omega arith) in
+    sym (together bits count width n others) ∙ rw (power, ← e) (omega arith) in
     sym (above_word (byte_count (count' + width * length numbers)) word (bits' + 2 ^ count' * others) h)
     ∙ sym (ap (λ (k : ℕ). digits 256 k (bits + 2 ^ count * (n + 2 ^ width * others))) len ∙ ap (λ (x : ℕ). digits 256 (8 + byte_count (count' + width * length numbers)) x) all)
 

@@ -1,22 +1,23 @@
 -- Exactly the bodies are read, each as its values.
-use Rattle.std.proofs.Common.{◌≡◌, ℕ, zero, suc, ◌+◌, ◌-◌, ◌*◌, ◌/◌, ◌%◌, ◌<◌, ◌≤◌, ◌^◌, Bool, true, false, ◌||◌, ◌&&◌, ◌==◌, not, cond, ltb, fold, min, max, map, List, [], ◌∷◌, ◌++◌, length, take, get_or, Option, Some, None, Result, Ok, Err, refl, ap, sym, ◌∙◌, subst, arith, append-nil, append_assoc}
-use Rattle.std.specs.List.{AllByRecursion, list_any}
+use Rattle.std.proofs.Common.{◌≡◌, ℕ, zero, suc, ◌+◌, ◌-◌, ◌*◌, ◌<◌, ◌≤◌, ◌^◌, Bool, true, false, ◌||◌, ◌&&◌, ◌==◌, not, cond, ltb, fold, max, map, List, [], ◌∷◌, ◌++◌, length, take, Option, Some, None, Result, Ok, Err, refl, ap, sym, ◌∙◌, subst, arith, append-nil, append_assoc}
+use Rattle.std.specs.List.{AllByRecursion}
 use Rattle.std.specs.Int.{w8, w64, to_le_bytes}
-use Rattle.std.proofs.lemmas.Bool.{eq-eqb, eqb-true, ne_eqb, le-ltb, ltb-false, and_parts, and_from}
+use Rattle.std.proofs.lemmas.Bool.{eq-eqb, eqb-true, ne_eqb, le-ltb, and_parts, and_from}
 use Rattle.dk_types.specs.declared.value.ColType.{ColType}
 use Rattle.dk_types.specs.declared.value.ColType.TheVariants as types
 use Rattle.dk_types.specs.declared.value.Value.{Value}
-use Rattle.dk_bytes.specs.Fields.{Place, Passes, behind, bytes_at, number_at}
+use Rattle.dk_bytes.specs.Fields.{Place, behind, bytes_at, number_at}
 use Rattle.dk_bytes.specs.Reading.{◌>>=◌, start, whole}
 use Rattle.dk_bytes.specs.PlainValue.{IsPlain}
-use Rattle.dk_bytes.proofs.Numbers.{IsBytes, IsBytes-take, Takes, Takes-then, bind_ok, bind_at, guard_ok, chosen_ok, low_byte, wide8, wide64, bytes_takes, bytes_again, number_takes, number_again}
-use Rattle.dk_seg_pack.specs.Bits.{byte_count, packed, numbers_in}
-use Rattle.dk_seg_pack.specs.Packed.{rank_of, least, greatest, bit_width, width_of, differences, half_turned, packed_bytes, IsNumeric, IsPacked, is_numeric, values_of, values_above, or_fault, differences_at, numbers_at, packed_at}
+use Rattle.dk_bytes.proofs.Numbers.{IsBytes, IsBytes-take, Takes, Takes-then, bind_ok, bind_at, guard_ok, low_byte, wide8, wide64, bytes_takes, bytes_again, number_takes, number_again}
+use Rattle.dk_bytes.proofs.Outcome.{whole_at, whole_ok}
+use Rattle.dk_seg_pack.specs.Bits.{bit_width, byte_count, packed, numbers_in}
+use Rattle.dk_seg_pack.specs.Packed.{rank_of, least, greatest, width_of, differences, half_turned, packed_bytes, IsNumeric, IsPacked, is_numeric, values_of, values_above, or_fault, differences_at, numbers_at, packed_at}
 use Rattle.dk_seg_pack.proofs.Digits.{length-digits}
 use Rattle.dk_seg_pack.proofs.Widths.{width_fits, width_most}
 use Rattle.dk_seg_pack.proofs.Bodies.{differences_fit, map_length}
-use Rattle.dk_seg_pack.proofs.Ranks.{chosen, turned_twice, turned_below}
-use Rattle.dk_seg_pack.proofs.Inverse.{has_zero, packed_again, found_packed, least_occurs, greatest_difference, values_again, ranks_below, StandAbove, taken_above, least_64, base_least, moved_back}
+use Rattle.dk_seg_pack.proofs.Ranks.{turned_twice, turned_below}
+use Rattle.dk_seg_pack.proofs.Inverse.{has_zero, packed_again, found_packed, least_occurs, greatest_difference, values_again, ranks_below, taken_above, least_64, base_least, moved_back}
 
 -- ---- what was written is read again
 
@@ -51,9 +52,9 @@ unfolding differences_at
 differences_again kind count base width at text ds values len found e =
     let P : ℕ → List ℕ → Type 0 = λ n rest. bytes_at n (record { at = at; rest = rest }) ≡ Ok (text, record { at = at + length text; rest = [] }) in
     let all : P (byte_count (width * count)) text =
-        subst (λ (n : ℕ). P n text) len (subst (λ (rest : List ℕ). P (length text) rest) (append-nil text) (bytes_again text [] at)) in
+    subst (λ (n : ℕ). P n text) len (subst (λ (rest : List ℕ). P (length text) rest) (append-nil text) (bytes_again text [] at)) in
     bind_at _ _ (text, record { at = at + length text; rest = [] }) _ all
-        (bind_at _ _ values _ (ap (λ (o : Option (List Value)). or_fault at o) (ap (λ (o : Option (List ℕ)). values_of kind base width o) found ∙ e)) refl)
+    (bind_at _ _ values _ (ap (λ (o : Option (List Value)). or_fault at o) (ap (λ (o : Option (List ℕ)). values_of kind base width o) found ∙ e)) refl)
 
 guard_at : {A : Type 0} (b : Bool) (d : ℕ) (x : A) → b ≡ false → cond b (Err d) (done x) ≡ Ok x
 guard_at true d x e = absurd cc
@@ -67,12 +68,9 @@ numbers_again kind count least_bits width text ds values fits most len found e =
     let width_is : P width = subst P (low_byte width (omega arith)) (number_again w8 wide8 width text 8 (omega arith)) in
     let fitting : ltb 64 width ≡ false = le-ltb 64 width most in
     bind_at {A = ℕ × Place} _ _ (least_bits, record { at = 8; rest = width ∷ text }) _ (number_again w64 wide64 least_bits (width ∷ text) 0 fits)
-        (bind_at {A = ℕ × Place} _ _ (width, record { at = 9; rest = text }) _ width_is
-            (bind_at {A = ℕ × Place} _ _ (width, record { at = 9; rest = text }) _ (guard_at (ltb 64 width) 8 (width, record { at = 9; rest = text }) fitting)
-                (differences_again kind count (half_turned least_bits) width 9 text ds values len found e)))
-
-whole_at : {A : Type 0} (reading : Result (A × Place) ℕ) (x : A) (at : ℕ) → reading ≡ Ok (x, record { at = at; rest = [] }) → whole reading ≡ Ok x
-whole_at reading x at e = bind_at reading _ (x, record { at = at; rest = [] }) _ e refl
+    (bind_at {A = ℕ × Place} _ _ (width, record { at = 9; rest = text }) _ width_is
+    (bind_at {A = ℕ × Place} _ _ (width, record { at = 9; rest = text }) _ (guard_at (ltb 64 width) 8 (width, record { at = 9; rest = text }) fitting)
+    (differences_again kind count (half_turned least_bits) width 9 text ds values len found e)))
 
 pub body_again : (kind : ColType) (values : List Value) → IsPacked kind values → packed_at kind (length values) (packed_bytes values) ≡ Ok values
 unfolding packed_at
@@ -82,16 +80,21 @@ body_again kind values h =
     let below = ranks_below kind values h.numeric h.plain in
     let same_len : length (differences ranks) ≡ length values = map_length (λ r. r - least ranks) ranks ∙ map_length rank_of values in
     let found : numbers_in width (length values) (packed width (differences ranks)) ≡ Some (differences ranks) =
-        subst (λ (n : ℕ). numbers_in width n (packed width (differences ranks)) ≡ Some (differences ranks)) same_len
-            (packed_again width (differences ranks) (differences_fit ranks width (width_fits (greatest ranks - least ranks) (top_below ranks below)))) in
+    subst (λ (n : ℕ). numbers_in width n (packed width (differences ranks)) ≡ Some (differences ranks)) same_len
+    (packed_again width (differences ranks) (differences_fit ranks width (width_fits (greatest ranks - least ranks) (top_below ranks below)))) in
     let len : length (packed width (differences ranks)) ≡ byte_count (width * length values) =
-        length-digits 256 _ _ ∙ ap (λ (n : ℕ). byte_count (width * n)) same_len in
+    length-digits 256 _ _ ∙ ap (λ (n : ℕ). byte_count (width * n)) same_len in
     let turned : half_turned (half_turned (least ranks)) ≡ least ranks = turned_twice (least ranks) (least_64 ranks) in
     let e : values_of kind (half_turned (half_turned (least ranks))) width (Some (differences ranks)) ≡ Some values =
-        subst (λ (b : ℕ). values_of kind b width (Some (differences ranks)) ≡ Some values) (sym turned) (values_back kind values h) in
+    subst (λ (b : ℕ). values_of kind b width (Some (differences ranks)) ≡ Some values) (sym turned) (values_back kind values h) in
     let read = numbers_again kind (length values) (half_turned (least ranks)) width (packed width (differences ranks)) (differences ranks) values (turned_below (least ranks)) (width_most _) len found e in
     let some : (length values == 0) ≡ false = ne_eqb _ _ (λ z. omega (arith, h.some)) in
     rw (some, numeric_test kind h.numeric) (whole_at (numbers_at kind (length values) (start (packed_bytes values))) values _ read)
+
+pub body_only : (kind : ColType) (count : ℕ) (bytes : List ℕ) (values : List Value) → length values ≡ count → IsPacked kind values → bytes ≡ packed_bytes values → packed_at kind count bytes ≡ Ok values
+body_only kind count bytes values len h e =
+    let P : ℕ → List ℕ → Type 0 = λ n xs. packed_at kind n xs ≡ Ok values in
+    subst (λ (n : ℕ). P n bytes) len (subst (λ (xs : List ℕ). P (length values) xs) (sym e) (body_again kind values h))
 
 -- ---- what was read is what is written
 
@@ -189,7 +192,7 @@ numbers_taken kind count p x fits e =
     let g = bind_ok (cond (ltb 64 width.0) (Err base.1.at) (Ok width)) (λ fitting. differences_at kind count (half_turned base.0) fitting.0 fitting.1) x d.2 in
     let same = guard_ok (ltb 64 width.0) base.1.at width g.0 g.1 in
     let read : differences_at kind count (half_turned base.0) width.0 width.1 ≡ Ok x =
-        subst (λ (w : ℕ × Place). differences_at kind count (half_turned base.0) w.0 w.1 ≡ Ok x) (sym same.1) g.2 in
+    subst (λ (w : ℕ × Place). differences_at kind count (half_turned base.0) w.0 w.1 ≡ Ok x) (sym same.1) g.2 in
     let width_bytes : Takes base.1 width.1 (width.0 ∷ []) = subst (λ (k : ℕ). Takes base.1 width.1 (k ∷ [])) (low_byte width.0 u.1) u.0 in
     record {
       base = base.0;
@@ -209,7 +212,7 @@ parts_are kind count base width text values below fits len t =
     let f = found_packed width count text t.ds fits len t.found in
     let least_is : least ranks ≡ base = ap least above.ranks ∙ base_least base t.ds below t.zero_there in
     let same : differences ranks ≡ t.ds =
-        ap (λ (b : ℕ). map (λ r. r - b) ranks) least_is ∙ ap (λ (rs : List ℕ). map (λ r. r - base) rs) above.ranks ∙ moved_back base t.ds in
+    ap (λ (b : ℕ). map (λ r. r - b) ranks) least_is ∙ ap (λ (rs : List ℕ). map (λ r. r - base) rs) above.ranks ∙ moved_back base t.ds in
     let width_same : width_of ranks ≡ width = ap bit_width (sym (greatest_difference ranks) ∙ ap greatest same) ∙ t.width_is in
     let count_same : length values ≡ count = sym (map_length rank_of values) ∙ ap length above.ranks ∙ map_length (λ d. base + d) t.ds ∙ f.1 in
     (count_same, above.plain, least_is, width_same, ap (packed width) same ∙ f.0)
@@ -219,20 +222,16 @@ unfolding packed_at
 body_taken kind count bytes values fits e =
     let p = passed ((count == 0) || not (is_numeric kind)) 0 (whole (numbers_at kind count (start bytes))) values e in
     let tests = or_parts (count == 0) (not (is_numeric kind)) p.0 in
-    let b = bind_ok (numbers_at kind count (start bytes)) (λ x. cond (length x.1.rest == 0) (Ok x.0) (Err x.1.at)) values p.1 in
-    let x = b.0 in
-    let ends = chosen_ok (length x.1.rest == 0) x.1.at x.0 values b.2 in
-    let n = numbers_taken kind count (start bytes) x fits b.1 in
+    let w = whole_ok (numbers_at kind count (start bytes)) values p.1 in
+    let n = numbers_taken kind count (start bytes) (values, w.behind) fits w.told in
     let d = n.rest in
-    let q = parts_are kind count (half_turned n.base) n.width d.text x.0 (turned_below n.base) d.fits d.len d.taken in
-    let all = Takes-then (start bytes) n.middle x.1 (to_le_bytes w64 n.base ++ (n.width ∷ [])) d.text n.front d.takes in
-    let none : x.1.rest ≡ [] = no_items x.1.rest (eqb-true (length x.1.rest) 0 ends.0) in
-    let spelled : bytes ≡ (to_le_bytes w64 n.base ++ (n.width ∷ [])) ++ d.text = all.passes.rest ∙ ap (λ (rest : List ℕ). ((to_le_bytes w64 n.base ++ (n.width ∷ [])) ++ d.text) ++ rest) none ∙ append-nil _ in
-    let base_is : half_turned (least (map rank_of x.0)) ≡ n.base = ap half_turned q.2 ∙ turned_twice n.base n.below in
-    let body : packed_bytes x.0 ≡ to_le_bytes w64 n.base ++ (n.width ∷ d.text) =
-        ap (λ (k : ℕ). to_le_bytes w64 k ++ (width_of (map rank_of x.0) ∷ packed (width_of (map rank_of x.0)) (differences (map rank_of x.0)))) base_is
-        ∙ ap (λ (w : ℕ). to_le_bytes w64 n.base ++ (w ∷ packed w (differences (map rank_of x.0)))) q.3
-        ∙ ap (λ (rest : List ℕ). to_le_bytes w64 n.base ++ (n.width ∷ rest)) q.4 in
-    let some : 0 < length x.0 = some_items count (length x.0) q.0 tests.0 in
-    subst (λ (vs : List Value). (length vs ≡ count) × IsPacked kind vs × (bytes ≡ packed_bytes vs)) ends.1
-        (q.0, record { numeric = numeric_fact kind tests.1; some = some; plain = q.1 }, spelled ∙ append_assoc (to_le_bytes w64 n.base) (n.width ∷ []) d.text ∙ sym body)
+    let q = parts_are kind count (half_turned n.base) n.width d.text values (turned_below n.base) d.fits d.len d.taken in
+    let all = Takes-then (start bytes) n.middle w.behind (to_le_bytes w64 n.base ++ (n.width ∷ [])) d.text n.front d.takes in
+    let spelled : bytes ≡ (to_le_bytes w64 n.base ++ (n.width ∷ [])) ++ d.text = all.passes.rest ∙ ap (λ (rest : List ℕ). ((to_le_bytes w64 n.base ++ (n.width ∷ [])) ++ d.text) ++ rest) w.used ∙ append-nil _ in
+    let base_is : half_turned (least (map rank_of values)) ≡ n.base = ap half_turned q.2 ∙ turned_twice n.base n.below in
+    let body : packed_bytes values ≡ to_le_bytes w64 n.base ++ (n.width ∷ d.text) =
+    ap (λ (k : ℕ). to_le_bytes w64 k ++ (width_of (map rank_of values) ∷ packed (width_of (map rank_of values)) (differences (map rank_of values)))) base_is
+    ∙ ap (λ (w : ℕ). to_le_bytes w64 n.base ++ (w ∷ packed w (differences (map rank_of values)))) q.3
+    ∙ ap (λ (rest : List ℕ). to_le_bytes w64 n.base ++ (n.width ∷ rest)) q.4 in
+    let some : 0 < length values = some_items count (length values) q.0 tests.0 in
+    (q.0, record { numeric = numeric_fact kind tests.1; some = some; plain = q.1 }, spelled ∙ append_assoc (to_le_bytes w64 n.base) (n.width ∷ []) d.text ∙ sym body)

@@ -4,7 +4,7 @@ use Rattle.std.specs.Int.{w64, leading_zeros}
 use Rattle.std.proofs.Math.Nat.{pow-le-pow_right, pow-suc}
 use Rattle.std.proofs.lemmas.Bool.{cases_lt}
 use Rattle.std.proofs.lemmas.Nat.{leading_length}
-use Rattle.dk_seg_pack.specs.Packed.{bit_width}
+use Rattle.dk_seg_pack.specs.Bits.{bit_width}
 
 pub width_fits : (n : ℕ) → n < 2 ^ 64 → n < 2 ^ bit_width n
 unfolding bit_width

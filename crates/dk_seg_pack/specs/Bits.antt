@@ -1,11 +1,16 @@
 -- Numbers of one width in a string of bytes: number i stands in bits w i to w i + w - 1, the least bit first.
-use Rattle.std.specs.Prelude.{◌≡◌, ℕ, ◌+◌, ◌*◌, ◌/◌, ◌^◌, ◌==◌, List, ◌∷◌, ◌++◌, length, Option, Some, None, if◌then◌else◌}
+use Rattle.std.specs.Prelude.{◌≡◌, ℕ, ◌+◌, ◌-◌, ◌*◌, ◌/◌, ◌^◌, ◌==◌, List, ◌∷◌, ◌++◌, length, Option, Some, None, if◌then◌else◌}
+use Rattle.std.specs.Int.{w64, leading_zeros}
 use Rattle.std.specs.Simd.Lanes.{number_l, digits_l}
 
 -- bits that wait for their word, as a number, and how many they are
 pub record Pending : Type 0 where
   pub number : ℕ
   pub count : ℕ
+
+-- the least width of a number
+unfoldable pub bit_width : ℕ → ℕ
+bit_width n = 64 - leading_zeros w64 n
 
 -- how many bytes hold that many bits
 abbrev pub byte_count : ℕ → ℕ

@@ -1,7 +1,7 @@
 -- The bodies of segments whose values are numbers of few bits above the least one.
 use Rattle.std.specs.Prelude.{ℕ, ℤ, pos, negsuc, ◌+◌, ◌-◌, ◌*◌, ◌<◌, ◌^◌, ◌%◌, Bool, true, false, ◌&&◌, ◌||◌, not, min, max, fold, map, List, [], ◌∷◌, ◌++◌, length, Option, Some, None, Result, Ok, Err, ◌==◌, nat_lt, nat_le, if◌then◌else◌}
 use Rattle.std.specs.List.{AllByRecursion, list_any}
-use Rattle.std.specs.Int.{w8, w64, to_le_bytes, leading_zeros}
+use Rattle.std.specs.Int.{w8, w64, to_le_bytes}
 use Rattle.dk_types.specs.declared.value.ColType.{ColType}
 use Rattle.dk_types.specs.declared.value.ColType.TheVariants as types
 use Rattle.dk_types.specs.declared.value.Value.{Value}
@@ -9,7 +9,7 @@ use Rattle.dk_types.specs.declared.value.Value.TheVariants as values
 use Rattle.dk_bytes.specs.Fields.{Place, bytes_at, number_at}
 use Rattle.dk_bytes.specs.PlainValue.{IsPlain, bit_byte}
 use Rattle.dk_bytes.specs.Reading.{◌>>=◌, start, whole}
-use Rattle.dk_seg_pack.specs.Bits.{byte_count, packed, numbers_in}
+use Rattle.dk_seg_pack.specs.Bits.{bit_width, byte_count, packed, numbers_in}
 
 -- how far a number stands above the least one of 64 bits
 abbrev pub rank : ℤ → ℕ
@@ -43,10 +43,6 @@ least ranks = fold min (2 ^ 64 - 1) ranks
 
 abbrev pub greatest : List ℕ → ℕ
 greatest ranks = fold max 0 ranks
-
--- the least width of a number
-unfoldable pub bit_width : ℕ → ℕ
-bit_width n = 64 - leading_zeros w64 n
 
 -- the width of the greatest difference to the least
 abbrev pub width_of : List ℕ → ℕ

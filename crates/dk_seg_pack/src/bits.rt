@@ -64,7 +64,12 @@ impl PendingBits {
     }
 
     /// Adds the bits of a number, and appends the word that is full.
-    pub(crate) fn put(&mut self, out: &mut Vec<u8>, number: u64, width: u32) -> Result<(), OutOfMemory>
+    pub(crate) fn put(
+        &mut self,
+        out: &mut Vec<u8>,
+        number: u64,
+        width: u32,
+    ) -> Result<(), OutOfMemory>
         requires width { width ≤ 64 }
         requires number { number < 2 ^ width }
         ensures ok { OnOk result (PutsBehind out.old.items out.new.items self.old self.new width number) }
@@ -168,7 +173,10 @@ fn split_word(bytes: &[u8]) -> (u64, &[u8])
     ensures { number 256 bytes.now ≡ result.0 + 2 ^ 64 * number 256 result.1.now }
 {
     match bytes {
-        [a, b, c, d, e, f, g, h, rest @ ..] => (u64::from_le_bytes([*a, *b, *c, *d, *e, *f, *g, *h]), rest),
+        [a, b, c, d, e, f, g, h, rest @ ..] => (
+            u64::from_le_bytes([*a, *b, *c, *d, *e, *f, *g, *h]),
+            rest,
+        ),
         _ => (last_word(bytes), &[]),
     }
 }

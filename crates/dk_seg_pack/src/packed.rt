@@ -2,15 +2,14 @@
 
 ghost use Rattle.std.specs.Prelude.{◌≡◌, ◌++◌, ◌↔◌, ◌≤◌, ◌<◌, ◌^◌, ◌+◌, ◌-◌, ◌*◌, ◌==◌, ◌&&◌, List, length, take, Ok, map, option_map, not, IsSome, IsTrue, IfSome, IfOk, OnOk, OnErr, All};
 ghost use Rattle.dk_types.specs.declared.value.Value.{Value};
-ghost use Rattle.dk_bytes.specs.Fields.{bytes_at};
 ghost use Rattle.dk_bytes.specs.PlainValue.{IsPlain};
 ghost use Rattle.dk_bytes.specs.Reading.{Gives};
-ghost use Rattle.dk_seg_pack.specs.Bits.{byte_count, numbers_in};
+ghost use Rattle.dk_seg_pack.specs.Bits.{bit_width};
 ghost use Rattle.std.specs.List.{list_any};
-ghost use Rattle.dk_seg_pack.specs.Packed.{bit_width, value_of_rank, rank_of, least, greatest, differences, width_of, body_of, packed_bytes, IsPacked, is_numeric, values_above, values_of, differences_at, numbers_at, packed_at};
+ghost use Rattle.dk_seg_pack.specs.Packed.{value_of_rank, rank_of, least, greatest, differences, width_of, body_of, packed_bytes, IsPacked, is_numeric, values_above, values_of, differences_at, numbers_at, packed_at};
 
-use crate::numbers::{pack, unpack};
-use crate::rank::{bit_width, half_turned, rank_of, value_of_rank};
+use crate::numbers::{bit_width, byte_count, pack, take_packed, unpack};
+use crate::rank::{half_turned, rank_of, value_of_rank};
 use dk_bytes::{Cursor, SegError, plain_len, put_u8, put_u64};
 use dk_types::{ColType, OutOfMemory, Value};
 use std::alloc::Global;
@@ -40,13 +39,19 @@ fn are_plain(values: &[Value], kind: ColType) -> bool
 fn least(values: &[Value]) -> u64
     ensures { result ≡ least (map rank_of values.now) }
 {
-    values.iter().map(|value| rank_of(value)).fold(u64::MAX, |least, rank| least.min(rank))
+    values
+        .iter()
+        .map(|value| rank_of(value))
+        .fold(u64::MAX, |least, rank| least.min(rank))
 }
 
 fn greatest(values: &[Value]) -> u64
     ensures { result ≡ greatest (map rank_of values.now) }
 {
-    values.iter().map(|value| rank_of(value)).fold(0, |greatest, rank| greatest.max(rank))
+    values
+        .iter()
+        .map(|value| rank_of(value))
+        .fold(0, |greatest, rank| greatest.max(rank))
 }
 
 /// The width of the greatest difference.
@@ -56,14 +61,6 @@ fn width_of(values: &[Value]) -> u32
     ensures fits { greatest (map rank_of values.now) - least (map rank_of values.now) < 2 ^ result }
 {
     bit_width(greatest(values).saturating_sub(least(values)))
-}
-
-/// How many bytes so many numbers of that width have.
-fn byte_count(width: u32, count: usize) -> u128
-    requires { width ≤ 64 }
-    ensures { result ≡ byte_count (width * count) }
-{
-    (width as u128 * count as u128 + 7) / 8
 }
 
 /// How long the body of these values is, if they are numbers of the type.
@@ -116,7 +113,12 @@ fn differences(alloc: Global, values: &[Value], base: u64) -> Result<Vec<u64>, O
 }
 
 /// The `count` values that a body stands for.
-pub fn decode(alloc: Global, bytes: &[u8], kind: ColType, count: usize) -> Result<Vec<Value>, SegError>
+pub fn decode(
+    alloc: Global,
+    bytes: &[u8],
+    kind: ColType,
+    count: usize,
+) -> Result<Vec<Value>, SegError>
     ensures found { IfOk result (λ v. (length v.items ≡ count) × IsPacked kind v.items × (bytes.now ≡ packed_bytes v.items)) }
     ensures only { (values : List Value) → length values ≡ count → IsPacked kind values → bytes.now ≡ packed_bytes values → Gives (λ v. v.items) result (Ok values) }
     ensures place { Gives (λ v. v.items) result (packed_at kind count bytes.now) }
@@ -140,7 +142,12 @@ fn read(alloc: Global, bytes: &[u8], kind: ColType, count: usize) -> Result<Vec<
 }
 
 #[tactic(auto, unfolding(crate::specs::Packed::numbers_at))]
-fn read_numbers(alloc: Global, cursor: &mut Cursor, kind: ColType, count: usize) -> Result<Vec<Value>, SegError>
+fn read_numbers(
+    alloc: Global,
+    cursor: &mut Cursor,
+    kind: ColType,
+    count: usize,
+) -> Result<Vec<Value>, SegError>
     ensures { Gives (λ v. (v.items, cursor.new)) result (numbers_at kind count cursor.old) }
 {
     let base = cursor.u64()?;
@@ -153,12 +160,19 @@ fn read_numbers(alloc: Global, cursor: &mut Cursor, kind: ColType, count: usize)
 }
 
 #[tactic(auto, unfolding(crate::specs::Packed::differences_at))]
-fn read_differences(alloc: Global, cursor: &mut Cursor, kind: ColType, count: usize, base: u64, width: u32) -> Result<Vec<Value>, SegError>
+fn read_differences(
+    alloc: Global,
+    cursor: &mut Cursor,
+    kind: ColType,
+    count: usize,
+    base: u64,
+    width: u32,
+) -> Result<Vec<Value>, SegError>
     requires { width ≤ 64 }
     ensures { Gives (λ v. (v.items, cursor.new)) result (differences_at kind count base width cursor.old) }
 {
     let at = cursor.at();
-    let bytes = take_bytes(cursor, byte_count(width, count))?;
+    let bytes = take_packed(cursor, width, count)?;
     let differences = unpack(alloc, bytes, width, count)?;
     match values_of(alloc, kind, base, width, &differences)? {
         Some(values) => Ok(values),
@@ -166,18 +180,14 @@ fn read_differences(alloc: Global, cursor: &mut Cursor, kind: ColType, count: us
     }
 }
 
-/// Lends so many bytes.
-fn take_bytes<'a>(cursor: &mut Cursor<'a>, count: u128) -> Result<&'a [u8], SegError>
-    ensures { Gives (λ bytes. (bytes.now, cursor.new)) result (bytes_at count cursor.old) }
-{
-    if count > cursor.left() as u128 {
-        return Err(SegError::Malformed { at: cursor.at() });
-    }
-    Ok(cursor.take(count as usize)?)
-}
-
 /// The values that the differences stand for, if a body may have those.
-fn values_of(alloc: Global, kind: ColType, base: u64, width: u32, differences: &Option<Vec<u64>>) -> Result<Option<Vec<Value>>, OutOfMemory>
+fn values_of(
+    alloc: Global,
+    kind: ColType,
+    base: u64,
+    width: u32,
+    differences: &Option<Vec<u64>>,
+) -> Result<Option<Vec<Value>>, OutOfMemory>
     ensures { IfOk result (λ values. option_map (λ v. v.items) values ≡ values_of kind base width (option_map (λ v. v.items) differences.now)) }
 {
     match differences {
@@ -212,7 +222,12 @@ fn value_above(kind: ColType, base: u64, difference: u64) -> Option<Value>
 }
 
 /// The values so far above that rank, if all are of the type.
-fn values_above(alloc: Global, kind: ColType, base: u64, differences: &[u64]) -> Result<Option<Vec<Value>>, OutOfMemory>
+fn values_above(
+    alloc: Global,
+    kind: ColType,
+    base: u64,
+    differences: &[u64],
+) -> Result<Option<Vec<Value>>, OutOfMemory>
     ensures { IfOk result (λ values. option_map (λ v. v.items) values ≡ values_above kind base differences.now) }
 {
     let mut values = Vec::with_capacity(alloc, differences.len())?;

@@ -1,5 +1,5 @@
-ghost use Rattle.std.specs.Prelude.{◌≡◌, ◌+◌, ◌-◌, ◌%◌, ◌<◌, ◌≤◌, ◌^◌, ℕ, map};
-ghost use Rattle.dk_seg_pack.specs.Packed.{rank, number_of_rank, rank_of, value_of_rank, half_turned, bit_width};
+ghost use Rattle.std.specs.Prelude.{◌≡◌};
+ghost use Rattle.dk_seg_pack.specs.Packed.{rank, number_of_rank, rank_of, value_of_rank, half_turned};
 
 use dk_types::{ColType, Value};
 
@@ -67,14 +67,4 @@ pub(crate) fn half_turned(rank: u64) -> u64
     ensures { result ≡ half_turned rank }
 {
     rank.wrapping_add(ZERO)
-}
-
-/// The least width of a number.
-pub(crate) fn bit_width(number: u64) -> u32
-    ensures value { result ≡ bit_width number }
-    ensures fits { number < 2 ^ result }
-    ensures most { result ≤ 64 }
-    ensures least { (width : ℕ) → number < 2 ^ width → result ≤ width }
-{
-    64 - number.leading_zeros()
 }

@@ -6,7 +6,7 @@ use Rattle.dk_seg_pack.proofs.bits.PendingBits.put.Goals as goal
 pub returns-in-None-clause-ok : goal.returns-in-None-clause-ok
 returns-in-None-clause-ok c numbers =
     ap (λ (bytes : List ℕ). c.args.out.now.items ++ bytes)
-        (behind_none _ _ _ _ _ _ c.in-None.ensures.number c.in-None.ensures.count numbers)
+    (behind_none _ _ _ _ _ _ c.in-None.ensures.number c.in-None.ensures.count numbers)
 
 pub returns-in-Some-clause-ok : goal.returns-in-Some-clause-ok
 returns-in-Some-clause-ok c =

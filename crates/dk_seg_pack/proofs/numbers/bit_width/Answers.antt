@@ -1,7 +1,7 @@
 use Rattle.std.proofs.Common.{refl, rules, ◌<◌, ◌^◌}
-use Rattle.dk_seg_pack.specs.Packed.{bit_width}
+use Rattle.dk_seg_pack.specs.Bits.{bit_width}
 use Rattle.dk_seg_pack.proofs.Widths.{width_fits, width_least}
-use Rattle.dk_seg_pack.proofs.rank.bit_width.Goals as goal
+use Rattle.dk_seg_pack.proofs.numbers.bit_width.Goals as goal
 
 pub returns-clause-value : goal.returns-clause-value
 unfolding bit_width
