@@ -1,0 +1,4 @@
+pub mod Values
+pub mod Seen
+pub mod Codes
+pub mod Measures
