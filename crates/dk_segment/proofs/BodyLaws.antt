@@ -14,9 +14,10 @@ use Rattle.dk_seg_run.proofs.Runs.{expanded-runs_of}
 use Rattle.dk_seg_run.proofs.ConstantFields as constants
 use Rattle.dk_seg_run.proofs.RunFields as runs
 use Rattle.dk_seg_pack.proofs.Reading as packs
+use Rattle.dk_seg_text.proofs.Values as plains
 use Rattle.dk_segment.specs.declared.encoding.Encoding.{Encoding}
 use Rattle.dk_segment.specs.declared.encoding.Encoding.TheVariants.{Constant, RunLength, Packed, Dictionary, Plain}
-use Rattle.dk_segment.specs.Bodies.{Holds, body_of, body_at, goes_with, is_plain, plain_at}
+use Rattle.dk_segment.specs.Bodies.{Holds, body_of, body_at, goes_with, is_plain}
 
 -- the bytes are the body of so many values
 pub record IsBodyOf (encoding : Encoding) (kind : ColType) (count : ℕ) (bytes : List ℕ) (values : List Value) : Type 0 where
@@ -28,15 +29,15 @@ pub body_found : (encoding : Encoding) (kind : ColType) (count : ℕ) (bytes : L
 body_found Constant kind count bytes values fits small e = let b = constants.body_found kind count bytes values fits e in record { total = b.total; holds = b.constant; told = b.told }
 body_found RunLength kind count bytes values fits small e = let b = runs.body_found kind count bytes values fits e in record { total = b.total; holds = b.runs; told = b.told }
 body_found Packed kind count bytes values fits small e = let b = packs.body_taken kind count bytes values fits e in record { total = b.0; holds = b.1; told = b.2 }
-body_found Dictionary kind count bytes values fits small e = absurd cc
-body_found Plain kind count bytes values fits small e = ?
+body_found Dictionary kind count bytes values fits small e = ?
+body_found Plain kind count bytes values fits small e = let b = plains.body_found kind count bytes values fits small e in record { total = b.0; holds = b.1; told = b.2 }
 
 pub body_only : (encoding : Encoding) (kind : ColType) (count : ℕ) (bytes : List ℕ) (values : List Value) → length values ≡ count → Holds encoding kind values → bytes ≡ body_of encoding values → body_at encoding kind count bytes ≡ Ok values
 body_only Constant kind count bytes values len h e = constants.body_only kind count bytes values len h e
 body_only RunLength kind count bytes values len h e = runs.body_only kind count bytes values len h e
 body_only Packed kind count bytes values len h e = packs.body_only kind count bytes values len h e
-body_only Dictionary kind count bytes values len h e = absurd h
-body_only Plain kind count bytes values len h e = ?
+body_only Dictionary kind count bytes values len h e = ?
+body_only Plain kind count bytes values len h e = plains.body_only kind count bytes values len h e
 
 -- ---- the values that are held
 
@@ -60,15 +61,15 @@ pub holds_plain : (encoding : Encoding) (kind : ColType) (values : List Value) �
 holds_plain Constant kind values h = constant_plain kind values h
 holds_plain RunLength kind values h = subst (λ (vs : List Value). AllByRecursion (IsPlain kind) vs) (expanded-runs_of values) (expanded_plain kind (runs_of values) h.runs)
 holds_plain Packed kind values h = h.plain
-holds_plain Dictionary kind values h = absurd h
-holds_plain Plain kind values h = subst (λ (vs : List Value). AllByRecursion (IsPlain kind) vs) (sym h) tt
+holds_plain Dictionary kind values h = subst (λ (k : ColType). AllByRecursion (IsPlain k) values) (sym h.text) h.plain
+holds_plain Plain kind values h = h.plain
 
 pub holds_goes : (encoding : Encoding) (kind : ColType) (values : List Value) → Holds encoding kind values → goes_with encoding kind ≡ true
 holds_goes Constant kind values h = refl
 holds_goes RunLength kind values h = refl
 holds_goes Packed types.Text values h = absurd h.numeric
 holds_goes Packed kind values h = refl
-holds_goes Dictionary kind values h = absurd h
+holds_goes Dictionary kind values h = subst (λ (k : ColType). goes_with Dictionary k ≡ true) (sym h.text) refl
 holds_goes Plain kind values h = refl
 
 constant_some : (kind : ColType) (values : List Value) → Holds Constant kind values → 0 < length values
@@ -80,5 +81,5 @@ pub holds_some : (encoding : Encoding) (kind : ColType) (values : List Value) �
 holds_some Constant kind values h e = constant_some kind values h
 holds_some RunLength kind values h e = h.some
 holds_some Packed kind values h e = h.some
-holds_some Dictionary kind values h e = absurd h
+holds_some Dictionary kind values h e = h.some
 holds_some Plain kind values h e = absurd cc

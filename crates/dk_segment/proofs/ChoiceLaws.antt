@@ -33,4 +33,4 @@ pub column_small : (kind : ColType) (values : List Value) → IsColumn kind valu
 column_small kind values h = omega (arith, values_small kind (present values) (cells_plain kind values h.cells), present_few values, h.few)
 
 pub column_plain : (kind : ColType) (values : List Value) → IsColumn kind values → Holds Plain kind (present values)
-column_plain kind values h = ?
+column_plain kind values h = record { plain = cells_plain kind values h.cells; room = column_small kind values h }

@@ -6,6 +6,8 @@ use Rattle.dk_types.specs.declared.value.Value.{Value}
 use Rattle.dk_seg_run.specs.Constant.{IsConstant, constant_bytes, constant_at}
 use Rattle.dk_seg_run.specs.RunLength.{HasRuns, run_length_bytes, run_length_at}
 use Rattle.dk_seg_pack.specs.Packed.{IsPacked, packed_bytes, packed_at}
+use Rattle.dk_seg_text.specs.Dictionary.{IsDictionary, dictionary_bytes, dictionary_at}
+use Rattle.dk_seg_text.specs.Plain.{ArePlain, plain_body, plain_at}
 use Rattle.dk_segment.specs.declared.encoding.Encoding.{Encoding}
 use Rattle.dk_segment.specs.declared.encoding.Encoding.TheVariants.{Constant, RunLength, Packed, Dictionary, Plain}
 
@@ -14,27 +16,24 @@ abbrev pub Holds : Encoding → ColType → List Value → Type 0
 Holds Constant kind values = IsConstant kind values
 Holds RunLength kind values = HasRuns kind values
 Holds Packed kind values = IsPacked kind values
-Holds Dictionary kind values = ⊥
-Holds Plain kind values = values ≡ []
+Holds Dictionary kind values = IsDictionary kind values
+Holds Plain kind values = ArePlain kind values
 
 -- their body
 abbrev pub body_of : Encoding → List Value → List ℕ
 body_of Constant values = constant_bytes values
 body_of RunLength values = run_length_bytes values
 body_of Packed values = packed_bytes values
-body_of Dictionary values = []
-body_of Plain values = []
-
-abbrev pub plain_at : ℕ → List ℕ → Result (List Value) ℕ
-plain_at count bytes = if count == 0 then Ok [] else Err 0
+body_of Dictionary values = dictionary_bytes values
+body_of Plain values = plain_body values
 
 -- so many values that a body stands for, or its first fault
 abbrev pub body_at : Encoding → ColType → ℕ → List ℕ → Result (List Value) ℕ
 body_at Constant kind count bytes = constant_at kind count bytes
 body_at RunLength kind count bytes = run_length_at kind count bytes
 body_at Packed kind count bytes = packed_at kind count bytes
-body_at Dictionary kind count bytes = Err 0
-body_at Plain kind count bytes = plain_at count bytes
+body_at Dictionary kind count bytes = dictionary_at kind count bytes
+body_at Plain kind count bytes = plain_at kind count bytes
 
 -- the byte that names the encoding
 abbrev pub code_of : Encoding → ℕ

@@ -6,6 +6,7 @@ use crate::encoding::Encoding;
 use dk_bytes::SegError;
 use dk_seg_pack::packed;
 use dk_seg_run::{constant, run_length};
+use dk_seg_text::{dictionary, plain};
 use dk_types::{ColType, OutOfMemory, Value};
 use std::alloc::Global;
 
@@ -18,8 +19,8 @@ pub(crate) fn body_size(encoding: Encoding, values: &[Value], kind: ColType) -> 
         Encoding::Constant => constant::size(values, kind),
         Encoding::RunLength => run_length::size(values, kind),
         Encoding::Packed => packed::size(values, kind),
-        Encoding::Dictionary => None,
-        Encoding::Plain => if values.is_empty() { Some(0) } else { None },
+        Encoding::Dictionary => dictionary::size(values, kind),
+        Encoding::Plain => plain::size(values, kind),
     }
 }
 
@@ -37,8 +38,8 @@ pub(crate) fn put_body(
         Encoding::Constant => constant::encode(values, kind, out),
         Encoding::RunLength => run_length::encode(values, kind, out),
         Encoding::Packed => packed::encode(values, kind, out),
-        Encoding::Dictionary => unreachable!(),
-        Encoding::Plain => Ok(()),
+        Encoding::Dictionary => dictionary::encode(values, kind, out),
+        Encoding::Plain => plain::encode(values, kind, out),
     }
 }
 
@@ -56,11 +57,7 @@ pub(crate) fn read_body(
         Encoding::Constant => constant::decode(alloc, bytes, kind, count),
         Encoding::RunLength => run_length::decode(alloc, bytes, kind, count),
         Encoding::Packed => packed::decode(alloc, bytes, kind, count),
-        Encoding::Dictionary => Err(SegError::Malformed { at: 0 }),
-        Encoding::Plain => if count == 0 {
-            Ok(Vec::new(alloc))
-        } else {
-            Err(SegError::Malformed { at: 0 })
-        },
+        Encoding::Dictionary => dictionary::decode(alloc, bytes, kind, count),
+        Encoding::Plain => plain::decode(alloc, bytes, kind, count),
     }
 }
