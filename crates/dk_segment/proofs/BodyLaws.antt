@@ -15,6 +15,8 @@ use Rattle.dk_seg_run.proofs.ConstantFields as constants
 use Rattle.dk_seg_run.proofs.RunFields as runs
 use Rattle.dk_seg_pack.proofs.Reading as packs
 use Rattle.dk_seg_text.proofs.Values as plains
+use Rattle.dk_seg_text.proofs.Found as dictionaries
+use Rattle.dk_seg_text.proofs.Again as written
 use Rattle.dk_segment.specs.declared.encoding.Encoding.{Encoding}
 use Rattle.dk_segment.specs.declared.encoding.Encoding.TheVariants.{Constant, RunLength, Packed, Dictionary, Plain}
 use Rattle.dk_segment.specs.Bodies.{Holds, body_of, body_at, goes_with, is_plain}
@@ -29,14 +31,14 @@ pub body_found : (encoding : Encoding) (kind : ColType) (count : ℕ) (bytes : L
 body_found Constant kind count bytes values fits small e = let b = constants.body_found kind count bytes values fits e in record { total = b.total; holds = b.constant; told = b.told }
 body_found RunLength kind count bytes values fits small e = let b = runs.body_found kind count bytes values fits e in record { total = b.total; holds = b.runs; told = b.told }
 body_found Packed kind count bytes values fits small e = let b = packs.body_taken kind count bytes values fits e in record { total = b.0; holds = b.1; told = b.2 }
-body_found Dictionary kind count bytes values fits small e = ?
+body_found Dictionary kind count bytes values fits small e = let b = dictionaries.body_found kind count bytes values fits e in record { total = b.0; holds = b.1; told = b.2 }
 body_found Plain kind count bytes values fits small e = let b = plains.body_found kind count bytes values fits small e in record { total = b.0; holds = b.1; told = b.2 }
 
 pub body_only : (encoding : Encoding) (kind : ColType) (count : ℕ) (bytes : List ℕ) (values : List Value) → length values ≡ count → Holds encoding kind values → bytes ≡ body_of encoding values → body_at encoding kind count bytes ≡ Ok values
 body_only Constant kind count bytes values len h e = constants.body_only kind count bytes values len h e
 body_only RunLength kind count bytes values len h e = runs.body_only kind count bytes values len h e
 body_only Packed kind count bytes values len h e = packs.body_only kind count bytes values len h e
-body_only Dictionary kind count bytes values len h e = ?
+body_only Dictionary kind count bytes values len h e = written.body_only kind count bytes values len h e
 body_only Plain kind count bytes values len h e = plains.body_only kind count bytes values len h e
 
 -- ---- the values that are held
