@@ -6,7 +6,7 @@ use Rattle.dk_seg_pack.proofs.Widths.{width_fits}
 use Rattle.dk_seg_text.specs.Dictionary.{is_entry, with_entry, code_of, entries_behind, entries_of, codes_behind, code_width}
 
 -- a text that is an entry has the code of one, and another has the next code
-place_of : (entries : List (List ℕ)) (t : List ℕ) (known : Bool) → known ≡ is_entry entries t → cond known (code_of entries t < length entries) (code_of entries t ≡ length entries)
+pub place_of : (entries : List (List ℕ)) (t : List ℕ) (known : Bool) → known ≡ is_entry entries t → cond known (code_of entries t < length entries) (code_of entries t ≡ length entries)
 place_of [] t true e = absurd cc
 place_of [] t false e = refl
 place_of (x ∷ entries) t known e = by_first (bytes_eq t x) refl known e (λ k f. place_of entries t k f)
@@ -23,7 +23,7 @@ place_of (x ∷ entries) t known e = by_first (bytes_eq t x) refl known e (λ k 
         let p : code_of entries t ≡ length entries = ih false g in
         rw (← f) (omega arith)
 
-code_below : (entries : List (List ℕ)) (t : List ℕ) → code_of entries t < length (with_entry entries t)
+pub code_below : (entries : List (List ℕ)) (t : List ℕ) → code_of entries t < length (with_entry entries t)
 code_below entries t = by_known (is_entry entries t) refl
   where
     by_known : (known : Bool) → known ≡ is_entry entries t → code_of entries t < length (with_entry entries t)
@@ -49,7 +49,7 @@ pub codes_below : (entries texts : List (List ℕ)) → AllByRecursion (λ code.
 codes_below entries [] = tt
 codes_below entries (t ∷ texts) = (omega (arith, code_below entries t, grown (with_entry entries t) texts), codes_below (with_entry entries t) texts)
 
-fit_width : (n width : ℕ) (codes : List ℕ) → (0 < n → n - 1 < 2 ^ width) → AllByRecursion (λ code. code < n) codes → AllByRecursion (λ code. code < 2 ^ width) codes
+pub fit_width : (n width : ℕ) (codes : List ℕ) → (0 < n → n - 1 < 2 ^ width) → AllByRecursion (λ code. code < n) codes → AllByRecursion (λ code. code < 2 ^ width) codes
 fit_width n width [] h all = tt
 fit_width n width (code ∷ codes) h all = (let some = h (omega (arith, all.0)) in omega (arith, all.0, some), fit_width n width codes h all.1)
 

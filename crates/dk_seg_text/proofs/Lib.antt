@@ -2,3 +2,6 @@ pub mod Values
 pub mod Seen
 pub mod Codes
 pub mod Measures
+pub mod Distinct
+pub mod Again
+pub mod Found

@@ -17,11 +17,11 @@ use Rattle.dk_seg_text.specs.Dictionary.{text_of, is_entry, with_entry, entries_
 use Rattle.dk_seg_text.proofs.Seen.{seen_any}
 use Rattle.dk_seg_text.proofs.Codes.{grown}
 
-codes_len : (entries texts : List (List ℕ)) → length (codes_behind entries texts) ≡ length texts
+pub codes_len : (entries texts : List (List ℕ)) → length (codes_behind entries texts) ≡ length texts
 codes_len entries [] = refl
 codes_len entries (t ∷ texts) = let ih = codes_len (with_entry entries t) texts in omega (arith, ih)
 
-map_length : (values : List Value) → length (map text_of values) ≡ length values
+pub map_length : (values : List Value) → length (map text_of values) ≡ length values
 map_length [] = refl
 map_length (v ∷ values) = let ih = map_length values in omega (arith, ih)
 

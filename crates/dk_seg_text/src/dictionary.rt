@@ -328,6 +328,8 @@ pub fn decode(
     kind: ColType,
     count: usize,
 ) -> Result<Vec<Value>, SegError>
+    ensures found { IfOk result (λ v. (length v.items ≡ count) × IsDictionary kind v.items × (bytes.now ≡ dictionary_bytes v.items)) }
+    ensures only { (values : List Value) → length values ≡ count → IsDictionary kind values → bytes.now ≡ dictionary_bytes values → Gives (λ v. v.items) result (Ok values) }
     ensures place { Gives (λ v. v.items) result (dictionary_at kind count bytes.now) }
 {
     read(alloc, bytes, kind, count)
