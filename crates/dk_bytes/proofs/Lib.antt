@@ -1,2 +1,7 @@
 pub mod Words
 pub mod Fields
+pub mod Text
+pub mod Numbers
+pub mod Plain
+pub mod Same
+pub mod Outcome

@@ -1,2 +1,4 @@
 pub mod Fields
 pub mod Checksum
+pub mod Reading
+pub mod PlainValue

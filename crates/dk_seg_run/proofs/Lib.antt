@@ -1,0 +1,5 @@
+pub mod Replicas
+pub mod Runs
+pub mod RunFields
+pub mod RunLoops
+pub mod ConstantFields

@@ -1,0 +1,23 @@
+-- The bodies of segments whose values are all the same.
+use Rattle.std.specs.Prelude.{◌≡◌, ℕ, zero, suc, List, [], ◌∷◌, Result, Ok, Err, All, replicate}
+use Rattle.dk_types.specs.declared.value.ColType.{ColType}
+use Rattle.dk_types.specs.declared.value.Value.{Value}
+use Rattle.dk_bytes.specs.PlainValue.{IsPlain, plain_bytes, value_at}
+use Rattle.dk_bytes.specs.Reading.{◌>>=◌, start, whole}
+
+-- at least one value, and all are that one
+abbrev pub IsConstant : ColType → List Value → Type 0
+IsConstant kind [] = ⊥
+IsConstant kind (value ∷ values) = IsPlain kind value × All (λ other. other ≡ value) values
+
+-- the one value that all are
+abbrev pub constant_bytes : List Value → List ℕ
+constant_bytes [] = []
+constant_bytes (value ∷ values) = plain_bytes value
+
+-- so many values that a body stands for, or its first fault; no body stands for no values
+unfoldable pub constant_at : ColType → ℕ → List ℕ → Result (List Value) ℕ
+constant_at kind zero bytes = Err 0
+constant_at kind (suc n) bytes = do
+  value ← whole (value_at kind (start bytes))
+  Ok (replicate (suc n) value)

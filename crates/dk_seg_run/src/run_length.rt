@@ -1,0 +1,237 @@
+//! The body has, behind their number, the runs of equal neighbours: the value, and how often it stands.
+
+ghost use Rattle.std.specs.Prelude.{◌≡◌, ◌+◌, ◌++◌, ◌<◌, ◌^◌, ◌≤◌, ◌↔◌, ℕ, List, ◌∷◌, Option, None, length, take, drop, Ok, IsSome, IsOk, IsTrue, IfSome, IfOk, OnOk, OnErr, vec_len};
+ghost use Rattle.std.specs.List.{AllByRecursion, flat_map, prefix_len};
+ghost use Rattle.dk_types.specs.declared.value.Value.{Value};
+ghost use Rattle.dk_bytes.specs.Reading.{Gives};
+ghost use Rattle.dk_bytes.specs.PlainValue.{same};
+ghost use Rattle.dk_seg_run.specs.RunLength.{IsRun, HasRuns, run_of, runs_of, run_bytes, run_length_bytes, run_length_at, run_at, runs_at, expanded, last_of, repeats};
+
+use crate::copies::push_copies;
+use dk_bytes::{Cursor, SegError, is_same, plain_len, put_u16, put_u32, put_value, read_value};
+use dk_types::{ColType, OutOfMemory, Value};
+use std::alloc::Global;
+
+/// A value, and how often it stands one after the other.
+#[derive(Debug, Drop)]
+pub struct Run {
+    pub value: Value,
+    pub count: u16,
+}
+
+/// How many values at the front are this one.
+fn equal_count(values: &[Value], first: &Value) -> usize
+    ensures front { result ≡ prefix_len (same first.now) values.now }
+    ensures within { result ≤ length values.now }
+{
+    values
+        .iter()
+        .take_while(|value| is_same(first, value))
+        .count()
+}
+
+/// How often the first value stands at the front.
+#[tactic(auto, using(crate::proofs::Runs::first_run))]
+fn front_count(first: &Value, rest: &[Value]) -> usize
+    ensures run { runs_of (first.now ∷ rest.now) ≡ run_of first.now result ∷ runs_of (drop result (first.now ∷ rest.now)) }
+    ensures within { result ≤ length rest.now + 1 }
+    ensures some { 0 < result }
+{
+    equal_count(rest, first) + 1
+}
+
+/// How long the body of these values is, if it can hold them: a run has at most 65,535 values.
+pub fn size(values: &[Value], kind: ColType) -> Option<usize>
+    ensures held { IsSome result ↔ HasRuns kind values.now }
+    ensures length { IfSome result (λ n. n ≡ length (run_length_bytes values.now)) }
+{
+    if values.is_empty() {
+        return None;
+    }
+    let len = runs_len(values, kind)?;
+    Some(4 + len)
+}
+
+/// How long the runs behind their number are.
+fn runs_len(values: &[Value], kind: ColType) -> Option<usize>
+    ensures held { IsSome result ↔ (AllByRecursion (IsRun kind) (runs_of values.now) × (length (runs_of values.now) < 2 ^ 32)) }
+    ensures length { IfSome result (λ n. n ≡ length (flat_map run_bytes (runs_of values.now))) }
+    ensures small { IfSome result (λ n. n < 2 ^ 63) }
+{
+    let mut runs = 0u32;
+    let mut len = 0;
+    let mut left = values;
+    'runs: while let [first, rest @ ..] = left {
+        let count = front_count(first, rest);
+        if count > u16::MAX as usize || runs == u32::MAX {
+            return None;
+        }
+        runs += 1;
+        len += plain_len(first, kind)? + 2;
+        let (_, after) = left.split_at(count);
+        left = after;
+    }
+    Some(len)
+}
+
+/// How many runs there are.
+fn run_count(values: &[Value]) -> usize
+    ensures { result ≡ length (runs_of values.now) }
+{
+    let mut runs = 0;
+    let mut left = values;
+    'runs: while let [first, rest @ ..] = left {
+        let count = front_count(first, rest);
+        runs += 1;
+        let (_, after) = left.split_at(count);
+        left = after;
+    }
+    runs
+}
+
+/// Appends the body.
+pub fn encode(values: &[Value], kind: ColType, out: &mut Vec<u8>) -> Result<(), OutOfMemory>
+    requires { HasRuns kind values.now }
+    ensures ok { OnOk result (out.new.items ≡ out.old.items ++ run_length_bytes values.now) }
+    ensures err { OnErr result (out.new.items ≡ out.old.items) }
+{
+    let start = out.len();
+    let put = put_body(values, kind, out);
+    if put.is_err() {
+        out.truncate(start);
+    }
+    put
+}
+
+fn put_body(values: &[Value], kind: ColType, out: &mut Vec<u8>) -> Result<(), OutOfMemory>
+    requires { HasRuns kind values.now }
+    ensures ok { OnOk result (out.new.items ≡ out.old.items ++ run_length_bytes values.now) }
+    ensures front { take (vec_len out.old) out.new.items ≡ out.old.items }
+{
+    put_u32(out, run_count(values) as u32)?;
+    put_runs(values, kind, out)
+}
+
+fn put_runs(values: &[Value], kind: ColType, out: &mut Vec<u8>) -> Result<(), OutOfMemory>
+    requires { AllByRecursion (IsRun kind) (runs_of values.now) }
+    ensures ok { OnOk result (out.new.items ≡ out.old.items ++ flat_map run_bytes (runs_of values.now)) }
+    ensures front { take (vec_len out.old) out.new.items ≡ out.old.items }
+{
+    let mut left = values;
+    'runs: while let [first, rest @ ..] = left {
+        let count = front_count(first, rest);
+        put_value(out, first, kind)?;
+        put_u16(out, count as u16)?;
+        let (_, after) = left.split_at(count);
+        left = after;
+    }
+    Ok(())
+}
+
+/// The `count` values that a body stands for.
+pub fn decode(
+    alloc: Global,
+    bytes: &[u8],
+    kind: ColType,
+    count: usize,
+) -> Result<Vec<Value>, SegError>
+    ensures found { IfOk result (λ v. (length v.items ≡ count) × HasRuns kind v.items × (bytes.now ≡ run_length_bytes v.items)) }
+    ensures only { (values : List Value) → length values ≡ count → HasRuns kind values → bytes.now ≡ run_length_bytes values → Gives (λ v. v.items) result (Ok values) }
+    ensures place { Gives (λ v. v.items) result (run_length_at kind count bytes.now) }
+{
+    read(alloc, bytes, kind, count)
+}
+
+#[tactic(auto, unfolding(crate::specs::RunLength::run_length_at))]
+fn read(alloc: Global, bytes: &[u8], kind: ColType, count: usize) -> Result<Vec<Value>, SegError>
+    ensures { Gives (λ v. v.items) result (run_length_at kind count bytes.now) }
+{
+    let mut cursor = Cursor::new(bytes);
+    let run_count = cursor.u32()?;
+    if run_count == 0 {
+        return Err(SegError::Malformed { at: 0 });
+    }
+    let runs = read_runs(alloc, &mut cursor, kind, run_count)?;
+    if total(runs.as_slice()) != count as u64 {
+        return Err(SegError::Malformed {
+            at: cursor.at() - 2,
+        });
+    }
+    if cursor.left() > 0 {
+        return Err(SegError::Malformed { at: cursor.at() });
+    }
+    Ok(expand(alloc, runs.as_slice())?)
+}
+
+fn read_runs(
+    alloc: Global,
+    cursor: &mut Cursor,
+    kind: ColType,
+    run_count: u32,
+) -> Result<Vec<Run>, SegError>
+    ensures reads { Gives (λ runs. (runs.items, cursor.new)) result (runs_at kind None run_count cursor.old) }
+    ensures behind { IsOk result → 0 < run_count → 2 ≤ cursor.new.at }
+    ensures few { IfOk result (λ runs. vec_len runs < 2 ^ 32) }
+{
+    let mut runs = Vec::new(alloc);
+    'runs: for _ in 0..run_count {
+        let run = read_run(alloc, cursor, kind, runs.as_slice())?;
+        runs.push(run)?;
+    }
+    Ok(runs)
+}
+
+#[tactic(auto, unfolding(crate::specs::RunLength::run_at))]
+fn read_run(
+    alloc: Global,
+    cursor: &mut Cursor,
+    kind: ColType,
+    earlier: &[Run],
+) -> Result<Run, SegError>
+    ensures reads { Gives (λ run. (run, cursor.new)) result (run_at kind (last_of earlier.now) cursor.old) }
+    ensures behind { IsOk result → 2 ≤ cursor.new.at }
+{
+    let at = cursor.at();
+    let value = read_value(alloc, cursor, kind)?;
+    if is_repeat(earlier, &value) {
+        return Err(SegError::Malformed { at });
+    }
+    let at = cursor.at();
+    let count = cursor.u16()?;
+    if count == 0 {
+        return Err(SegError::Malformed { at });
+    }
+    Ok(Run { value, count })
+}
+
+/// Whether the value is that of the last run.
+fn is_repeat(earlier: &[Run], value: &Value) -> bool
+    ensures { result ≡ repeats (last_of earlier.now) value.now }
+{
+    match earlier.last() {
+        Some(run) => is_same(&run.value, value),
+        None => false,
+    }
+}
+
+/// How many values the runs stand for.
+fn total(runs: &[Run]) -> u64
+    requires { length runs.now < 2 ^ 32 }
+    ensures { result ≡ length (expanded runs.now) }
+{
+    let mut sum = 0;
+    'runs: for run in runs {
+        sum += run.count as u64;
+    }
+    sum
+}
+
+fn expand(alloc: Global, runs: &[Run]) -> Result<Vec<Value>, OutOfMemory>
+    ensures { IfOk result (λ v. v.items ≡ expanded runs.now) }
+{
+    let mut values = Vec::new(alloc);
+    'runs: for run in runs {
+        push_copies(alloc, &mut values, &run.value, run.count as usize)?;
+    }
+    Ok(values)
+}

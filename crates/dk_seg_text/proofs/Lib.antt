@@ -1,0 +1,7 @@
+pub mod Values
+pub mod Seen
+pub mod Codes
+pub mod Measures
+pub mod Distinct
+pub mod Again
+pub mod Found

@@ -1,0 +1,171 @@
+-- How long a body is, and its parts one behind the other.
+use Rattle.std.proofs.Common.{◌≡◌, ℕ, suc, ◌+◌, ◌*◌, ◌/◌, ◌%◌, ◌<◌, ◌≤◌, ◌^◌, Bool, true, false, cond, ◌||◌, bytes_eq, List, [], ◌∷◌, ◌++◌, map, length, take, drop, get_or, Option, Some, None, refl, sym, ap, subst, ◌∙◌, append_assoc, arith, length-append, inl, inr}
+use Rattle.std.specs.List.{AllByRecursion, flat_map, list_any}
+use Rattle.std.specs.Int.{w16, to_le_bytes}
+use Rattle.std.specs.Simd.Lanes.{number_l as number}
+use Rattle.std.proofs.lemmas.List.{take_more, take-append-drop}
+use Rattle.std.proofs.lemmas.Slice.Eq.{bytes_eq-Decides}
+use Rattle.std.proofs.lemmas.Bool.{cases_lt}
+use Rattle.std.proofs.Math.Seq.{drop-cons}
+use Rattle.dk_types.specs.declared.value.Value.{Value}
+use Rattle.dk_types.specs.declared.value.ColType.TheVariants as types
+use Rattle.dk_types.specs.declared.value.Value.TheVariants as variants
+use Rattle.dk_bytes.specs.PlainValue.{IsPlain}
+use Rattle.dk_seg_pack.specs.Bits.{byte_count, packed}
+use Rattle.dk_seg_pack.proofs.Digits.{length-digits}
+use Rattle.dk_seg_text.specs.Dictionary.{text_of, is_entry, with_entry, entries_behind, entries_of, codes_behind, code_width, entry_bytes, body_with, dictionary_bytes}
+use Rattle.dk_seg_text.proofs.Seen.{seen_any}
+use Rattle.dk_seg_text.proofs.Codes.{grown}
+
+pub codes_len : (entries texts : List (List ℕ)) → length (codes_behind entries texts) ≡ length texts
+codes_len entries [] = refl
+codes_len entries (t ∷ texts) = let ih = codes_len (with_entry entries t) texts in omega (arith, ih)
+
+pub map_length : (values : List Value) → length (map text_of values) ≡ length values
+map_length [] = refl
+map_length (v ∷ values) = let ih = map_length values in omega (arith, ih)
+
+-- two bytes, the entries, one byte and the codes
+pub dictionary_len : (values : List Value) → length (dictionary_bytes values) ≡ 3 + length (flat_map entry_bytes (entries_of (map text_of values))) + byte_count (code_width (length (entries_of (map text_of values))) * length values)
+dictionary_len values =
+    let texts : List (List ℕ) = map text_of values in
+    let entries : List (List ℕ) = entries_of texts in
+    let codes : List ℕ = codes_behind [] texts in
+    let width : ℕ = code_width (length entries) in
+    let e = length-digits 256 (byte_count (width * length codes)) (number (2 ^ width) codes) in
+    let f : length codes ≡ length values = codes_len [] texts ∙ map_length values in
+    let g = ap (λ (n : ℕ). byte_count (width * n)) f in
+    let h = length-append (flat_map entry_bytes entries) (width ∷ packed width codes) in
+    omega (arith, e, g, h)
+
+short_number : (n : ℕ) → to_le_bytes w16 (n % 65536) ≡ to_le_bytes w16 n
+short_number n =
+    let a : n % 65536 % 256 ≡ n % 256 = omega arith in
+    let b : n % 65536 / 256 % 256 ≡ n / 256 % 256 = omega arith in
+    rw (a, b) refl
+
+three_joined : (out a b c out1 out2 out3 : List ℕ) → out1 ≡ out ++ a → out2 ≡ out1 ++ b → out3 ≡ out2 ++ c → out3 ≡ out ++ (a ++ (b ++ c))
+three_joined out a b c out1 out2 out3 p q r = r ∙ rw (q, p) (append_assoc (out ++ a) b c ∙ append_assoc out a (b ++ c))
+
+-- the fields of a body, one behind the other
+pub body_joined : (texts entries : List (List ℕ)) (codes : List ℕ) (n n' : ℕ) (out out1 out2 out3 : List ℕ) → entries ≡ entries_of texts → codes ≡ codes_behind [] texts → n ≡ length entries → n' ≡ length entries
+    → out1 ≡ out ++ to_le_bytes w16 (n % 65536) → out2 ≡ out1 ++ flat_map entry_bytes entries → out3 ≡ out2 ++ (code_width n' ∷ packed (code_width n') codes) → out3 ≡ out ++ body_with (entries_of texts) (codes_behind [] texts)
+body_joined texts entries codes n n' out out1 out2 out3 e f g h p q r =
+    three_joined out (to_le_bytes w16 (n % 65536)) (flat_map entry_bytes entries) (code_width n' ∷ packed (code_width n') codes) out1 out2 out3 p q r
+    ∙ ap (λ (xs : List ℕ). out ++ (xs ++ (flat_map entry_bytes entries ++ (code_width n' ∷ packed (code_width n') codes)))) (short_number n ∙ ap (to_le_bytes w16) g)
+    ∙ ap (λ (m : ℕ). out ++ (to_le_bytes w16 (length entries) ++ (flat_map entry_bytes entries ++ (code_width m ∷ packed (code_width m) codes)))) h
+    ∙ ap (λ (es : List (List ℕ)). out ++ body_with es codes) e
+    ∙ ap (λ (cs : List ℕ). out ++ body_with (entries_of texts) cs) f
+
+-- ---- entries of the first values
+
+or_assoc : (a b c : Bool) → ((a || b) || c) ≡ (a || (b || c))
+or_assoc true b c = refl
+or_assoc false b c = refl
+
+or_false : (a : Bool) → (a || false) ≡ a
+or_false true = refl
+or_false false = refl
+
+any_append : (es : List (List ℕ)) (x t : List ℕ) → is_entry (es ++ x ∷ []) t ≡ (is_entry es t || bytes_eq t x)
+any_append [] x t = or_false (bytes_eq t x)
+any_append (e ∷ es) x t = ap (λ (b : Bool). bytes_eq t e || b) (any_append es x t) ∙ sym (or_assoc (bytes_eq t e) (is_entry es t) (bytes_eq t x))
+
+also_entry : (es : List (List ℕ)) (x t : List ℕ) (same : Bool) → same ≡ bytes_eq t x → true ≡ is_entry es x → is_entry es t ≡ (is_entry es t || same)
+also_entry es x t false e h = sym (or_false (is_entry es t))
+also_entry es x t true e h =
+    let eq : t ≡ x = (bytes_eq-Decides t x).0 (sym e) in
+    let there : is_entry es t ≡ true = ap (is_entry es) eq ∙ sym h in
+    rw there refl
+
+with_one : (es : List (List ℕ)) (x t : List ℕ) (known : Bool) → known ≡ is_entry es x → is_entry (cond known es (es ++ x ∷ [])) t ≡ (is_entry es t || bytes_eq t x)
+with_one es x t true e = also_entry es x t (bytes_eq t x) refl e
+with_one es x t false e = any_append es x t
+
+entry_among : (es texts : List (List ℕ)) (t : List ℕ) → is_entry (entries_behind es texts) t ≡ (is_entry es t || is_entry texts t)
+entry_among es [] t = sym (or_false (is_entry es t))
+entry_among es (x ∷ texts) t =
+    entry_among (with_entry es x) texts t
+    ∙ ap (λ (b : Bool). b || is_entry texts t) (with_one es x t (is_entry es x) refl)
+    ∙ or_assoc (is_entry es t) (bytes_eq t x) (is_entry texts t)
+
+-- a text is among the values exactly where it is an entry
+pub known_is : (values : List Value) (t : List ℕ) (known : Bool) → known ≡ list_any (λ v. bytes_eq t (text_of v)) values → known ≡ is_entry (entries_of (map text_of values)) t
+known_is values t known e = e ∙ seen_any text_of values t ∙ sym (entry_among [] (map text_of values) t)
+
+fold_append : (es texts more : List (List ℕ)) → entries_behind es (texts ++ more) ≡ entries_behind (entries_behind es texts) more
+fold_append es [] more = refl
+fold_append es (t ∷ texts) more = fold_append (with_entry es t) texts more
+
+map_append : (values more : List Value) → map text_of (values ++ more) ≡ map text_of values ++ map text_of more
+map_append [] more = refl
+map_append (v ∷ values) more = ap (λ (l : List (List ℕ)). text_of v ∷ l) (map_append values more)
+
+pub entries_next : (values : List Value) (i : ℕ) (v : Value) → i < length values → v ≡ get_or values i v → entries_of (map text_of (take (i + 1) values)) ≡ with_entry (entries_of (map text_of (take i values))) (text_of v)
+entries_next values i v h e =
+    let more : take (i + 1) values ≡ take i values ++ v ∷ [] = take_more values i v h ∙ ap (λ (x : Value). take i values ++ x ∷ []) (sym e) in
+    ap (λ (vs : List Value). entries_of (map text_of vs)) more
+    ∙ ap entries_of (map_append (take i values) (v ∷ []))
+    ∙ fold_append [] (map text_of (take i values)) (text_of v ∷ [])
+
+pub rest_fits : (values : List Value) (i : ℕ) (v : Value) → i < length values → AllByRecursion (IsPlain types.Text) (drop i values) → AllByRecursion (IsPlain types.Text) (drop (i + 1) values)
+rest_fits values i v h all =
+    let e : i + 1 ≡ suc i = omega arith in
+    let both : AllByRecursion (IsPlain types.Text) (get_or values i v ∷ drop (suc i) values) = subst (λ (vs : List Value). AllByRecursion (IsPlain types.Text) vs) (drop-cons values i v h) all in
+    subst (λ (n : ℕ). AllByRecursion (IsPlain types.Text) (drop n values)) (sym e) both.1
+
+-- the entries and what was counted of them
+pub record IsMeasure (entries : List (List ℕ)) (m : ℕ × ℕ) : Type 0 where
+  pub count : m.0 ≡ length entries
+  pub len : m.1 ≡ length (flat_map entry_bytes entries)
+  pub few : m.0 ≤ 65535
+  pub small : m.1 ≤ 65537 * m.0
+
+flat_one : (es : List (List ℕ)) (t : List ℕ) → length (flat_map entry_bytes (es ++ t ∷ [])) ≡ length (flat_map entry_bytes es) + (2 + length t)
+flat_one [] t = omega (arith, length-append t [])
+flat_one (e ∷ es) t = omega (arith, flat_one es t, length-append (entry_bytes e) (flat_map entry_bytes (es ++ t ∷ [])), length-append (entry_bytes e) (flat_map entry_bytes es))
+
+pub one_measured : (es : List (List ℕ)) (t : List ℕ) (count len : ℕ) (m : ℕ × ℕ) (known : Bool) → count ≡ length es → len ≡ length (flat_map entry_bytes es) → count ≤ 65535 → len ≤ 65537 * count → length t < 2 ^ 16 → known ≡ is_entry es t
+    → (known ≡ true → Some m ≡ Some (count, len)) → (known ≡ false → count < 65535 → Some m ≡ Some (count + 1, len + (2 + length t))) → (known ≡ false → count ≡ 65535 → Some m ≡ None) → IsMeasure (with_entry es t) m
+one_measured es t count len m true c l few small short e known fresh full =
+    let same : (count, len) ≡ m = cc (known refl) in
+    subst (λ (x : ℕ × ℕ). IsMeasure (with_entry es t) x) same (rw (← e) (record { count = c; len = l; few = few; small = small }))
+one_measured es t count len m false c l few small short e known fresh full =
+    elim (cases_lt count 65535) [
+      | inl lt ↦
+          let same : (count + 1, len + (2 + length t)) ≡ m = cc (fresh refl lt) in
+          subst (λ (x : ℕ × ℕ). IsMeasure (with_entry es t) x) same
+          (rw (← e) (record { count = omega (arith, length-append es (t ∷ [])); len = omega (arith, flat_one es t); few = omega arith; small = omega arith }))
+      | inr le ↦ absurd (let none : Some m ≡ None = full refl (omega arith) in cc)
+    ]
+
+none_some : {A : Type 0} {x : A} → None ≡ Some x → ⊥
+none_some e = cc
+
+short_text : (v : Value) → IsPlain types.Text v → length (text_of v) < 2 ^ 16
+short_text (variants.Text text) h = h.0
+short_text v h = absurd h
+
+pub first_short : (values : List Value) (i : ℕ) (v : Value) → i < length values → v ≡ get_or values i v → AllByRecursion (IsPlain types.Text) (drop i values) → length (text_of v) < 2 ^ 16
+first_short values i v h e all =
+    let both : AllByRecursion (IsPlain types.Text) (get_or values i v ∷ drop (suc i) values) = subst (λ (vs : List Value). AllByRecursion (IsPlain types.Text) vs) (drop-cons values i v h) all in
+    short_text v (subst (λ (x : Value). IsPlain types.Text x) (sym e) both.0)
+
+pub never : false ≡ true → ⊥
+never e = cc
+
+pub too_many : (values : List Value) (i : ℕ) (v : Value) (t : List ℕ) (count len : ℕ) (known : Bool) → i < length values → v ≡ get_or values i v → t ≡ text_of v → count ≡ length (entries_of (map text_of (take i values))) → count ≤ 65535 → known ≡ is_entry (entries_of (map text_of (take i values))) t
+    → (known ≡ true → ◌≡◌ {A = Option (ℕ × ℕ)} None (Some (count, len))) → (known ≡ false → count < 65535 → ◌≡◌ {A = Option (ℕ × ℕ)} None (Some (count + 1, len + (2 + length t)))) → 65536 ≤ length (entries_of (map text_of values))
+too_many values i v t count len true h e g c few k known fresh = absurd (none_some (known refl))
+too_many values i v t count len false h e g c few k known fresh =
+    let es : List (List ℕ) = entries_of (map text_of (take i values)) in
+    let next : entries_of (map text_of (take (i + 1) values)) ≡ with_entry es t = entries_next values i v h e ∙ ap (with_entry es) (sym g) in
+    let longer : entries_of (map text_of (take (i + 1) values)) ≡ es ++ t ∷ [] = next ∙ ap (λ (b : Bool). cond b es (es ++ t ∷ [])) (sym k) in
+    let all : entries_of (map text_of values) ≡ entries_behind (entries_of (map text_of (take (i + 1) values))) (map text_of (drop (i + 1) values)) =
+    ap (λ (vs : List Value). entries_of (map text_of vs)) (sym (take-append-drop (i + 1) values))
+    ∙ ap entries_of (map_append (take (i + 1) values) (drop (i + 1) values))
+    ∙ fold_append [] (map text_of (take (i + 1) values)) (map text_of (drop (i + 1) values)) in
+    elim (cases_lt count 65535) [
+      | inl lt ↦ absurd (none_some (fresh refl lt))
+      | inr le ↦ omega (arith, ap length all, ap length longer, length-append es (t ∷ []), grown (entries_of (map text_of (take (i + 1) values))) (map text_of (drop (i + 1) values)))
+    ]

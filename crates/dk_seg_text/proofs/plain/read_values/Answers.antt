@@ -1,0 +1,17 @@
+use Rattle.std.proofs.Common.{arith, ◌+◌, ◌-◌}
+use Rattle.std.proofs.lemmas.Result.{err_from_is_err_and}
+use Rattle.dk_bytes.proofs.Outcome.{fails_then}
+use Rattle.dk_seg_text.proofs.Values.{one_value, failed_value}
+use Rattle.dk_seg_text.proofs.plain.read_values.Goals as goal
+
+pub values-preserved : goal.values-preserved
+values-preserved c = record {
+  told = rw c.in_ok-push.ensures.items
+      (one_value c.args.kind c.values.values.items c.in_ok-value.value (c.args.count - c.values.counter) (c.args.count - (c.values.counter + 1)) _ _ _ (omega (arith, c.values-test.true)) c.in_ok-value.ensures.reads c.values.invariant.told);
+  within = omega arith;
+}
+
+pub returns-in_err-value : goal.returns-in_err-value
+returns-in_err-value c =
+    let p = err_from_is_err_and c.from_residual.result c.from_residual.ensures.1 in
+    rw (p.1, p.2) (fails_then _ _ _ (failed_value c.args.kind c.values.values.items (c.args.count - c.values.counter) (c.args.count - (c.values.counter + 1)) _ _ (omega (arith, c.values-test.true)) c.values.invariant.told) c.in_err-value.ensures.reads)

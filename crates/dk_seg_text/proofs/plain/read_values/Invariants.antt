@@ -1,0 +1,10 @@
+use Rattle.std.proofs.Common.{◌≡◌, ◌-◌, ◌≤◌}
+use Rattle.dk_seg_text.specs.Plain.{values_at}
+use Rattle.dk_seg_text.proofs.Values.{with_front}
+use Rattle.dk_seg_text.proofs.plain.read_values.Given as goal
+
+abbrev pub invariant-values : goal.invariant-values
+invariant-values l = record {
+  told : with_front l.values.items (values_at l.kind (l.count - l.counter) l.cursor) ≡ values_at l.kind l.count l.fn.cursor;
+  within : l.counter ≤ l.count;
+}

@@ -1,0 +1,336 @@
+//! The body has each different text once, in the order of first use, and for each value the number of its text.
+
+ghost use Rattle.std.specs.Prelude.{◌≡◌, ◌++◌, ◌↔◌, ◌≤◌, ◌<◌, ◌+◌, ◌-◌, ◌^◌, ℕ, List, [], ◌∷◌, ◌*◌, Some, None, true, false, length, take, map, option_map, bytes_eq, Ok, IsSome, IsTrue, IfSome, IfOk, OnOk, OnErr};
+ghost use Rattle.std.specs.List.{AllByRecursion, flat_map, list_any};
+ghost use Rattle.dk_seg_pack.specs.Bits.{packed};
+ghost use Rattle.std.specs.Str.{is_utf8};
+ghost use Rattle.dk_types.specs.declared.value.Value.{Value};
+ghost use Rattle.dk_types.specs.declared.value.Value.TheVariants as values;
+ghost use Rattle.dk_types.specs.declared.value.ColType.TheVariants as types;
+ghost use Rattle.dk_bytes.specs.PlainValue.{IsPlain, text_at};
+ghost use Rattle.dk_bytes.specs.Reading.{Gives};
+ghost use Rattle.dk_seg_text.specs.Dictionary.{text_of, entries_of, codes_behind, code_width, entry_bytes, dictionary_bytes, IsDictionary, entry_at, entries_at, used_behind, are_all_used, text_with, texts_with, codes_at, width_at, texts_at, is_text, dictionary_at};
+
+use crate::entries::Entries;
+use dk_bytes::{Cursor, SegError, plain_len, put_u8, put_u16};
+use dk_seg_pack::numbers::{bit_width, byte_count, pack, take_packed, unpack};
+use dk_types::{ColType, List, OutOfMemory, Value};
+use std::alloc::Global;
+
+/// The most entries that a body may have.
+const MAX_ENTRIES: usize = 65_535;
+
+fn text_of(value: &Value) -> &[u8]
+    ensures { result.now ≡ text_of value.now }
+{
+    match value {
+        Value::Text(text) => text.as_slice(),
+        _ => &[],
+    }
+}
+
+fn is_text(kind: ColType) -> bool
+    ensures { result ≡ is_text kind }
+{
+    match kind {
+        ColType::Text => true,
+        _ => false,
+    }
+}
+
+/// The width of the codes of so many entries.
+fn code_width(entry_count: usize) -> u32
+    ensures value { result ≡ code_width entry_count }
+    ensures most { result ≤ 64 }
+{
+    bit_width(entry_count.saturating_sub(1) as u64)
+}
+
+/// How long the body of these values is, if they are texts of which at most 65,535 are different.
+#[tactic(auto, using(crate::proofs::Measures::dictionary_len))]
+pub fn size(values: &[Value], kind: ColType) -> Option<usize>
+    ensures held { IsSome result ↔ IsDictionary kind values.now }
+    ensures length { IfSome result (λ n. n ≡ length (dictionary_bytes values.now)) }
+{
+    if values.is_empty() || !is_text(kind) || !are_texts(values) {
+        return None;
+    }
+    let (count, len) = measure(values)?;
+    Some(3 + len + byte_count(code_width(count), values.len()) as usize)
+}
+
+fn are_texts(values: &[Value]) -> bool
+    ensures { IsTrue result ↔ AllByRecursion (IsPlain types.Text) values.now }
+{
+    values
+        .iter()
+        .all(|value| plain_len(value, ColType::Text).is_some())
+}
+
+fn is_among(values: &[Value], text: &[u8]) -> bool
+    ensures { result ≡ list_any (λ value. bytes_eq text.now (text_of value)) values.now }
+{
+    values.iter().any(|value| text == text_of(value))
+}
+
+/// How many different texts there are, and how many bytes they have with their lengths.
+fn measure(values: &[Value]) -> Option<(usize, usize)>
+    requires { AllByRecursion (IsPlain types.Text) values.now }
+    ensures held { IsSome result ↔ (length (entries_of (map text_of values.now)) < 2 ^ 16) }
+    ensures count { IfSome result (λ m. m.0 ≡ length (entries_of (map text_of values.now))) }
+    ensures length { IfSome result (λ m. m.1 ≡ length (flat_map entry_bytes (entries_of (map text_of values.now)))) }
+    ensures small { IfSome result (λ m. m.1 < 2 ^ 33) }
+{
+    let mut count = 0usize;
+    let mut len = 0usize;
+    'values: for (i, value) in values.iter().enumerate() {
+        let text = text_of(value);
+        let is_known = is_among(&values[..i], text);
+        let Some(more) = with_text(count, len, is_known, text) else {
+            return None;
+        };
+        count = more.0;
+        len = more.1;
+    }
+    Some((count, len))
+}
+
+/// The number of texts and of their bytes with one more text, if it is a new one, and if there may be one more.
+fn with_text(count: usize, len: usize, is_known: bool, text: &[u8]) -> Option<(usize, usize)>
+    requires count { count ≤ 65535 }
+    requires len { len ≤ 65537 * count }
+    requires text { length text.now < 2 ^ 16 }
+    ensures known { is_known ≡ true → result ≡ Some (count, len) }
+    ensures fresh { is_known ≡ false → count < 65535 → result ≡ Some (count + 1, len + (2 + length text.now)) }
+    ensures full { is_known ≡ false → count ≡ 65535 → result ≡ None }
+{
+    if is_known {
+        return Some((count, len));
+    }
+    if count == MAX_ENTRIES {
+        return None;
+    }
+    Some((count + 1, len + (2 + text.len())))
+}
+
+/// Appends the body.
+pub fn encode(values: &[Value], kind: ColType, out: &mut Vec<u8>) -> Result<(), OutOfMemory>
+    requires { IsDictionary kind values.now }
+    ensures ok { OnOk result (out.new.items ≡ out.old.items ++ dictionary_bytes values.now) }
+    ensures err { OnErr result (out.new.items ≡ out.old.items) }
+{
+    let before = out.len();
+    let done = put_body(values, out);
+    if done.is_err() {
+        out.truncate(before);
+    }
+    done
+}
+
+/// Appends the body. Without memory a part of it may have been appended.
+fn put_body(values: &[Value], out: &mut Vec<u8>) -> Result<(), OutOfMemory>
+    ensures ok { OnOk result (out.new.items ≡ out.old.items ++ dictionary_bytes values.now) }
+    ensures kept { take (length out.old.items) out.new.items ≡ out.old.items }
+{
+    let (entries, codes) = coded(*out.allocator(), values)?;
+    put_u16(out, (entries.len() % 65_536) as u16)?;
+    entries.put(out)?;
+    put_codes(out, entries.len(), &codes)
+}
+
+/// Appends the width and the codes. Without memory a part of them may have been appended.
+fn put_codes(out: &mut Vec<u8>, entry_count: usize, codes: &[u64]) -> Result<(), OutOfMemory>
+    requires { AllByRecursion (λ code. code < entry_count) codes.now }
+    ensures ok { OnOk result (out.new.items ≡ out.old.items ++ (code_width entry_count ∷ packed (code_width entry_count) codes.now)) }
+    ensures kept { take (length out.old.items) out.new.items ≡ out.old.items }
+{
+    let width = code_width(entry_count);
+    put_u8(out, width as u8)?;
+    pack(out, width, codes)
+}
+
+/// The entries and the codes of these values.
+fn coded<'a>(alloc: Global, values: &'a [Value]) -> Result<(Entries<'a>, Vec<u64>), OutOfMemory>
+    ensures entries { IfOk result (λ c. c.0 ≡ entries_of (map text_of values.now)) }
+    ensures codes { IfOk result (λ c. c.1.items ≡ codes_behind [] (map text_of values.now)) }
+{
+    let mut entries = Entries::new(alloc);
+    let mut codes = Vec::with_capacity(alloc, values.len())?;
+    'values: for value in values {
+        let code = entries.add(text_of(value))?;
+        codes.push(code as u64)?;
+    }
+    Ok((entries, codes))
+}
+
+/// Lends the text that stands next.
+#[tactic(auto, unfolding(dk_bytes::specs::PlainValue::text_at))]
+fn take_text<'a>(cursor: &mut Cursor<'a>) -> Result<&'a [u8], SegError>
+    ensures { Gives (λ text. (values.Text text.now, cursor.new)) result (text_at cursor.old) }
+{
+    let len = cursor.u16()?;
+    let at = cursor.at();
+    let text = cursor.take(len as usize)?;
+    if is_utf8(text) {
+        Ok(text)
+    } else {
+        Err(SegError::Malformed { at })
+    }
+}
+
+#[tactic(auto, using(dk_bytes::proofs::Text::tests_utf8))]
+fn is_utf8(bytes: &[u8]) -> bool
+    ensures { result ≡ is_utf8 bytes.now }
+{
+    simdutf8::is_utf8(bytes)
+}
+
+/// Reads one more entry, which must be none of those before.
+#[tactic(auto, unfolding(crate::specs::Dictionary::entry_at))]
+fn read_entry<'a>(cursor: &mut Cursor<'a>, entries: &mut Entries<'a>) -> Result<(), SegError>
+    ensures { Gives (λ _. (entries.new, cursor.new)) result (entry_at entries.old cursor.old) }
+{
+    let at = cursor.at();
+    let text = take_text(cursor)?;
+    if entries.add_new(text)? {
+        Ok(())
+    } else {
+        Err(SegError::Malformed { at })
+    }
+}
+
+fn read_entries<'a>(
+    alloc: Global,
+    cursor: &mut Cursor<'a>,
+    count: u16,
+) -> Result<Entries<'a>, SegError>
+    ensures { Gives (λ entries. (entries, cursor.new)) result (entries_at count [] cursor.old) }
+{
+    let mut entries = Entries::new(alloc);
+    'entries: for _ in 0..count {
+        read_entry(cursor, &mut entries)?;
+    }
+    Ok(entries)
+}
+
+/// Whether so many entries are used, each after all before it.
+fn are_all_used(codes: &[u64], count: usize) -> bool
+    ensures { result ≡ are_all_used count (used_behind 0 codes.now) }
+{
+    let mut used = 0u64;
+    'codes: for code in codes {
+        if used < *code {
+            return false;
+        }
+        if *code == used {
+            used += 1;
+        }
+    }
+    used == count as u64
+}
+
+fn texts(alloc: Global, entries: &Entries, codes: &[u64]) -> Result<Vec<Value>, OutOfMemory>
+    ensures { IfOk result (λ v. v.items ≡ map (text_with entries.now) codes.now) }
+{
+    let mut values = Vec::with_capacity(alloc, codes.len())?;
+    'codes: for code in codes {
+        let text = Vec::from_slice(alloc, entries.get(*code as usize))?;
+        values.push(Value::Text(List::from_vec(text)))?;
+    }
+    Ok(values)
+}
+
+/// The values that the codes stand for, if a body may have those.
+fn texts_with(
+    alloc: Global,
+    entries: &Entries,
+    codes: &Option<Vec<u64>>,
+) -> Result<Option<Vec<Value>>, OutOfMemory>
+    ensures { IfOk result (λ values. option_map (λ v. v.items) values ≡ texts_with entries.now (option_map (λ v. v.items) codes.now)) }
+{
+    match codes {
+        Some(codes) if are_all_used(codes, entries.len()) => Ok(Some(texts(
+            alloc, entries, codes,
+        )?)),
+        _ => Ok(None),
+    }
+}
+
+#[tactic(auto, unfolding(crate::specs::Dictionary::codes_at))]
+fn read_codes(
+    alloc: Global,
+    cursor: &mut Cursor,
+    entries: &Entries,
+    width: u32,
+    count: usize,
+) -> Result<Vec<Value>, SegError>
+    requires { width ≤ 64 }
+    ensures { Gives (λ v. (v.items, cursor.new)) result (codes_at entries.now width count cursor.old) }
+{
+    let at = cursor.at();
+    let bytes = take_packed(cursor, width, count)?;
+    let codes = unpack(alloc, bytes, width, count)?;
+    match texts_with(alloc, entries, &codes)? {
+        Some(values) => Ok(values),
+        None => Err(SegError::Malformed { at }),
+    }
+}
+
+#[tactic(auto, unfolding(crate::specs::Dictionary::width_at))]
+fn read_width(
+    alloc: Global,
+    cursor: &mut Cursor,
+    entries: &Entries,
+    count: usize,
+) -> Result<Vec<Value>, SegError>
+    ensures { Gives (λ v. (v.items, cursor.new)) result (width_at entries.now count cursor.old) }
+{
+    let at = cursor.at();
+    let width = cursor.u8()? as u32;
+    if width != code_width(entries.len()) {
+        return Err(SegError::Malformed { at });
+    }
+    read_codes(alloc, cursor, entries, width, count)
+}
+
+#[tactic(auto, unfolding(crate::specs::Dictionary::texts_at))]
+fn read_texts(alloc: Global, cursor: &mut Cursor, count: usize) -> Result<Vec<Value>, SegError>
+    ensures { Gives (λ v. (v.items, cursor.new)) result (texts_at count cursor.old) }
+{
+    let at = cursor.at();
+    let entry_count = cursor.u16()?;
+    if entry_count == 0 {
+        return Err(SegError::Malformed { at });
+    }
+    let entries = read_entries(alloc, cursor, entry_count)?;
+    read_width(alloc, cursor, &entries, count)
+}
+
+#[tactic(auto, unfolding(crate::specs::Dictionary::dictionary_at))]
+fn read(alloc: Global, bytes: &[u8], kind: ColType, count: usize) -> Result<Vec<Value>, SegError>
+    ensures { Gives (λ v. v.items) result (dictionary_at kind count bytes.now) }
+{
+    if count == 0 || !is_text(kind) {
+        return Err(SegError::Malformed { at: 0 });
+    }
+    let mut cursor = Cursor::new(bytes);
+    let values = read_texts(alloc, &mut cursor, count)?;
+    if cursor.left() > 0 {
+        return Err(SegError::Malformed { at: cursor.at() });
+    }
+    Ok(values)
+}
+
+/// The `count` values that a body stands for.
+pub fn decode(
+    alloc: Global,
+    bytes: &[u8],
+    kind: ColType,
+    count: usize,
+) -> Result<Vec<Value>, SegError>
+    ensures found { IfOk result (λ v. (length v.items ≡ count) × IsDictionary kind v.items × (bytes.now ≡ dictionary_bytes v.items)) }
+    ensures only { (values : List Value) → length values ≡ count → IsDictionary kind values → bytes.now ≡ dictionary_bytes values → Gives (λ v. v.items) result (Ok values) }
+    ensures place { Gives (λ v. v.items) result (dictionary_at kind count bytes.now) }
+{
+    read(alloc, bytes, kind, count)
+}

@@ -1,0 +1,96 @@
+//! The body has the values one behind the other.
+
+ghost use Rattle.std.specs.Prelude.{◌≡◌, ◌++◌, ◌↔◌, List, length, take, Ok, IsSome, IfSome, IfOk, OnOk, OnErr};
+ghost use Rattle.std.specs.List.{AllByRecursion};
+ghost use Rattle.dk_types.specs.declared.value.Value.{Value};
+ghost use Rattle.dk_bytes.specs.PlainValue.{IsPlain};
+ghost use Rattle.dk_bytes.specs.Reading.{Gives};
+ghost use Rattle.dk_seg_text.specs.Plain.{ArePlain, plain_body, values_at, plain_at};
+
+use dk_bytes::{Cursor, SegError, plain_len, put_value, read_value};
+use dk_types::{ColType, OutOfMemory, Value};
+use std::alloc::Global;
+
+/// How long the body of these values is, if all are of the type.
+pub fn size(values: &[Value], kind: ColType) -> Option<usize>
+    ensures held { IsSome result ↔ ArePlain kind values.now }
+    ensures length { IfSome result (λ n. n ≡ length (plain_body values.now)) }
+{
+    let mut len = 0usize;
+    'values: for value in values {
+        let more = plain_len(value, kind)?;
+        len = len.checked_add(more)?;
+    }
+    Some(len)
+}
+
+/// Appends the body.
+pub fn encode(values: &[Value], kind: ColType, out: &mut Vec<u8>) -> Result<(), OutOfMemory>
+    requires { ArePlain kind values.now }
+    ensures ok { OnOk result (out.new.items ≡ out.old.items ++ plain_body values.now) }
+    ensures err { OnErr result (out.new.items ≡ out.old.items) }
+{
+    let before = out.len();
+    let done = put_values(values, kind, out);
+    if done.is_err() {
+        out.truncate(before);
+    }
+    done
+}
+
+/// Appends the values. Without memory some of them may have been appended.
+pub(crate) fn put_values(
+    values: &[Value],
+    kind: ColType,
+    out: &mut Vec<u8>,
+) -> Result<(), OutOfMemory>
+    requires { AllByRecursion (IsPlain kind) values.now }
+    ensures ok { OnOk result (out.new.items ≡ out.old.items ++ plain_body values.now) }
+    ensures kept { take (length out.old.items) out.new.items ≡ out.old.items }
+{
+    'values: for value in values {
+        put_value(out, value, kind)?;
+    }
+    Ok(())
+}
+
+/// The `count` values that a body stands for.
+pub fn decode(
+    alloc: Global,
+    bytes: &[u8],
+    kind: ColType,
+    count: usize,
+) -> Result<Vec<Value>, SegError>
+    ensures found { IfOk result (λ v. (length v.items ≡ count) × ArePlain kind v.items × (bytes.now ≡ plain_body v.items)) }
+    ensures only { (values : List Value) → length values ≡ count → ArePlain kind values → bytes.now ≡ plain_body values → Gives (λ v. v.items) result (Ok values) }
+    ensures place { Gives (λ v. v.items) result (plain_at kind count bytes.now) }
+{
+    read(alloc, bytes, kind, count)
+}
+
+fn read(alloc: Global, bytes: &[u8], kind: ColType, count: usize) -> Result<Vec<Value>, SegError>
+    ensures { Gives (λ v. v.items) result (plain_at kind count bytes.now) }
+{
+    let mut cursor = Cursor::new(bytes);
+    let values = read_values(alloc, &mut cursor, kind, count)?;
+    if cursor.left() > 0 {
+        return Err(SegError::Malformed { at: cursor.at() });
+    }
+    Ok(values)
+}
+
+fn read_values(
+    alloc: Global,
+    cursor: &mut Cursor,
+    kind: ColType,
+    count: usize,
+) -> Result<Vec<Value>, SegError>
+    ensures { Gives (λ v. (v.items, cursor.new)) result (values_at kind count cursor.old) }
+{
+    let mut values = Vec::new(alloc);
+    'values: for _ in 0..count {
+        let value = read_value(alloc, cursor, kind)?;
+        values.push(value)?;
+    }
+    Ok(values)
+}

@@ -1,0 +1,4 @@
+pub mod BodyLaws
+pub mod NullLaws
+pub mod ChoiceLaws
+pub mod SegmentLaws

@@ -1,0 +1,22 @@
+//! Column segments: 1 to 2,048 values of one type, nulls among them, in the smallest of five encodings.
+//!
+//! `specs/Segment.antt` says which byte strings are segments of a type, and of which values; `decode` answers those
+//! values for exactly these strings, and the place of the first fault for all others. `encode` writes the encoding of
+//! least size, ties to the first of `Encoding`. Stands on the crates of the encodings, `dk_bytes` and `dk_types`.
+#![tactic(auto)]
+
+mod bodies;
+mod choice;
+mod encoding;
+mod present;
+mod reading;
+mod writing;
+
+pub use choice::analyse;
+pub use encoding::Encoding;
+pub use present::is_column;
+pub use reading::decode;
+pub use writing::encode;
+
+#[cfg(test)]
+mod tests;

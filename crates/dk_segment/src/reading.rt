@@ -1,0 +1,152 @@
+ghost use Rattle.std.specs.Prelude.{◌≡◌, ◌==◌, ◌&&◌, ◌||◌, ◌<◌, ◌≤◌, ◌^◌, List, length, count_by, Ok, IfOk, Some};
+ghost use Rattle.std.specs.List.{list_any};
+ghost use Rattle.dk_types.specs.declared.value.Value.{Value};
+ghost use Rattle.dk_bytes.specs.Reading.{Gives};
+ghost use Rattle.dk_segment.specs.declared.encoding.Encoding.{Encoding};
+ghost use Rattle.dk_segment.specs.Bodies.{is_plain, body_at};
+ghost use Rattle.dk_segment.specs.Segment.{IsSegment, ones, encoding_at, flag_at, count_at, flags_at, masked_at, segment_at, moved};
+
+use crate::bodies::read_body;
+use crate::encoding::{Encoding, encoding_of};
+use crate::present::{MAX_VALUES, with_nulls};
+use dk_bytes::{Cursor, SegError};
+use dk_seg_pack::numbers::unpack;
+use dk_types::{ColType, Value};
+use std::alloc::Global;
+
+/// The values that the bytes stand for as a segment of the type.
+pub fn decode(alloc: Global, bytes: &[u8], kind: ColType) -> Result<Vec<Value>, SegError>
+    ensures found { IfOk result (λ v. (encoding : Encoding) × IsSegment kind encoding v.items bytes.now) }
+    ensures only { (encoding : Encoding) (values : List Value) → IsSegment kind encoding values bytes.now → Gives (λ v. v.items) result (Ok values) }
+    ensures place { Gives (λ v. v.items) result (segment_at kind bytes.now) }
+{
+    read(alloc, bytes, kind)
+}
+
+#[tactic(auto, unfolding(crate::specs::Segment::segment_at))]
+fn read(alloc: Global, bytes: &[u8], kind: ColType) -> Result<Vec<Value>, SegError>
+    ensures { Gives (λ v. v.items) result (segment_at kind bytes.now) }
+{
+    let mut cursor = Cursor::new(bytes);
+    let encoding = read_encoding(&mut cursor, kind)?;
+    let flag = read_flag(&mut cursor)?;
+    let count = read_count(&mut cursor)?;
+    if flag == 0 {
+        read_behind(alloc, &mut cursor, encoding, kind, count as usize)
+    } else {
+        read_masked(alloc, &mut cursor, encoding, kind, count as usize)
+    }
+}
+
+#[tactic(auto, unfolding(crate::specs::Segment::encoding_at))]
+fn read_encoding(cursor: &mut Cursor, kind: ColType) -> Result<Encoding, SegError>
+    ensures { Gives (λ encoding. (encoding, cursor.new)) result (encoding_at kind cursor.old) }
+{
+    let at = cursor.at();
+    let code = cursor.u8()?;
+    match encoding_of(kind, code) {
+        Some(encoding) => Ok(encoding),
+        None => Err(SegError::Malformed { at }),
+    }
+}
+
+#[tactic(auto, unfolding(crate::specs::Segment::flag_at))]
+fn read_flag(cursor: &mut Cursor) -> Result<u8, SegError>
+    ensures { Gives (λ flag. (flag, cursor.new)) result (flag_at cursor.old) }
+{
+    let at = cursor.at();
+    let flag = cursor.u8()?;
+    if flag < 2 {
+        Ok(flag)
+    } else {
+        Err(SegError::Malformed { at })
+    }
+}
+
+#[tactic(auto, unfolding(crate::specs::Segment::count_at))]
+fn read_count(cursor: &mut Cursor) -> Result<u32, SegError>
+    ensures { Gives (λ count. (count, cursor.new)) result (count_at cursor.old) }
+{
+    let at = cursor.at();
+    let count = cursor.u32()?;
+    if 1 <= count && count as usize <= MAX_VALUES {
+        Ok(count)
+    } else {
+        Err(SegError::Malformed { at })
+    }
+}
+
+/// The present values that the rest of the bytes stands for; a fault's place counts from the segment's start.
+fn read_behind(
+    alloc: Global,
+    cursor: &mut Cursor,
+    encoding: Encoding,
+    kind: ColType,
+    count: usize,
+) -> Result<Vec<Value>, SegError>
+    ensures { Gives (λ v. v.items) result (moved cursor.old.at (body_at encoding kind count cursor.old.rest)) }
+{
+    let start = cursor.at();
+    let left = cursor.left();
+    let bytes = cursor.take(left)?;
+    match read_body(alloc, encoding, bytes, kind, count) {
+        Err(SegError::Malformed { at }) => Err(SegError::Malformed {
+            at: start.saturating_add(at),
+        }),
+        read => read,
+    }
+}
+
+#[tactic(auto, unfolding(crate::specs::Segment::masked_at))]
+fn read_masked(
+    alloc: Global,
+    cursor: &mut Cursor,
+    encoding: Encoding,
+    kind: ColType,
+    count: usize,
+) -> Result<Vec<Value>, SegError>
+    requires { count < 2 ^ 32 }
+    ensures { Gives (λ v. v.items) result (masked_at encoding kind count cursor.old) }
+{
+    let flags = read_flags(alloc, cursor, encoding, count)?;
+    let values = read_behind(alloc, cursor, encoding, kind, ones(&flags))?;
+    Ok(with_nulls(alloc, &flags, values)?)
+}
+
+/// How many flags are 1.
+fn ones(flags: &[u64]) -> usize
+    ensures { result ≡ ones flags.now }
+{
+    flags.iter().filter(|flag| **flag == 1).count()
+}
+
+#[tactic(auto, unfolding(crate::specs::Segment::flags_at))]
+fn read_flags(
+    alloc: Global,
+    cursor: &mut Cursor,
+    encoding: Encoding,
+    count: usize,
+) -> Result<Vec<u64>, SegError>
+    requires { count < 2 ^ 32 }
+    ensures { Gives (λ flags. (flags.items, cursor.new)) result (flags_at encoding count cursor.old) }
+{
+    let at = cursor.at();
+    let bytes = cursor.take((1 * count + 7) / 8)?;
+    match unpack(alloc, bytes, 1, count)? {
+        Some(flags) if is_mask(encoding, &flags) => Ok(flags),
+        _ => Err(SegError::Malformed { at }),
+    }
+}
+
+/// Whether a null is there, and a present value unless the encoding is plain.
+fn is_mask(encoding: Encoding, flags: &[u64]) -> bool
+    ensures { result ≡ (list_any (λ flag. flag == 0) flags.now && (is_plain encoding || list_any (λ flag. flag == 1) flags.now)) }
+{
+    has(flags, 0) && (encoding == Encoding::Plain || has(flags, 1))
+}
+
+fn has(flags: &[u64], wanted: u64) -> bool
+    ensures { result ≡ list_any (λ flag. flag == wanted) flags.now }
+{
+    flags.iter().any(|flag| *flag == wanted)
+}

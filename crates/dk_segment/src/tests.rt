@@ -1,0 +1,221 @@
+use crate::{decode, encode, is_column};
+use dk_bytes::SegError;
+use dk_types::{ColType, List, Value};
+use std::process::Abort;
+use std::test::Fail;
+
+fn text(rt: &impl AllocGlobal, bytes: &[u8]) -> Result<Value, Fail> {
+    Ok(Value::Text(List::from_vec(Vec::from_slice(rt.alloc(), bytes)?)))
+}
+
+/// The values are written as these bytes, and read back.
+fn comes_back<R: AllocGlobal + Abort>(
+    rt: &R,
+    values: &[Value],
+    kind: ColType,
+    bytes: &[u8],
+) -> Result<(), Fail> {
+    assert!(rt; is_column(values, kind));
+    let spelled = encode(rt.alloc(), values, kind)?;
+    assert_eq!(rt; spelled.as_slice(), bytes);
+    let back = decode(rt.alloc(), bytes, kind)?;
+    assert_eq!(rt; back.as_slice(), values);
+    Ok(())
+}
+
+/// The values take so many bytes, and are read back.
+fn has_len<R: AllocGlobal + Abort>(
+    rt: &R,
+    values: &[Value],
+    kind: ColType,
+    len: usize,
+) -> Result<(), Fail> {
+    assert!(rt; is_column(values, kind));
+    let spelled = encode(rt.alloc(), values, kind)?;
+    assert_eq!(rt; spelled.len(), len);
+    let back = decode(rt.alloc(), spelled.as_slice(), kind)?;
+    assert_eq!(rt; back.as_slice(), values);
+    Ok(())
+}
+
+#[test]
+fn numbers(rt: HostRuntime) -> Result<(), Fail> {
+    let same = [Value::Big(5), Value::Big(5), Value::Big(5)];
+    comes_back(
+        &rt,
+        &same,
+        ColType::Big,
+        &[1, 0, 3, 0, 0, 0, 5, 0, 0, 0, 0, 0, 0, 0],
+    )?;
+    let near = [Value::Big(10), Value::Null, Value::Big(13)];
+    comes_back(
+        &rt,
+        &near,
+        ColType::Big,
+        &[3, 1, 3, 0, 0, 0, 5, 10, 0, 0, 0, 0, 0, 0, 0, 2, 12],
+    )?;
+    let nulls = [Value::Null, Value::Null, Value::Null];
+    comes_back(&rt, &nulls, ColType::Int, &[0, 1, 3, 0, 0, 0, 0])?;
+    let ends = [Value::Int(i32::MIN), Value::Int(i32::MAX)];
+    comes_back(
+        &rt,
+        &ends,
+        ColType::Int,
+        &[0, 0, 2, 0, 0, 0, 0, 0, 0, 128, 255, 255, 255, 127],
+    )?;
+    let truths = [
+        Value::Null,
+        Value::Bool(true),
+        Value::Bool(false),
+        Value::Null,
+    ];
+    comes_back(&rt, &truths, ColType::Bool, &[0, 1, 4, 0, 0, 0, 6, 1, 0])?;
+    comes_back(
+        &rt,
+        &[Value::Big(7)],
+        ColType::Big,
+        &[1, 0, 1, 0, 0, 0, 7, 0, 0, 0, 0, 0, 0, 0],
+    )
+}
+
+#[test]
+fn runs(rt: HostRuntime) -> Result<(), Fail> {
+    let low = i64::MIN;
+    let high = i64::MAX;
+    let values = [
+        Value::Big(low),
+        Value::Big(low),
+        Value::Big(low),
+        Value::Big(high),
+        Value::Big(high),
+        Value::Big(high),
+    ];
+    let bytes = [
+        2, 0, 6, 0, 0, 0, 2, 0, 0, 0, 0, 0, 0, 0, 0, 0, 0, 128, 3, 0, 255, 255, 255, 255, 255, 255,
+        255, 127, 3, 0,
+    ];
+    comes_back(&rt, &values, ColType::Big, &bytes)
+}
+
+#[test]
+fn texts(rt: HostRuntime) -> Result<(), Fail> {
+    let few = [text(&rt, b"a")?, text(&rt, b"b")?, text(&rt, b"a")?];
+    comes_back(
+        &rt,
+        &few,
+        ColType::Text,
+        &[0, 0, 3, 0, 0, 0, 1, 0, 97, 1, 0, 98, 1, 0, 97],
+    )?;
+    let many = [
+        text(&rt, b"x")?,
+        text(&rt, b"x")?,
+        text(&rt, b"x")?,
+        text(&rt, b"y")?,
+    ];
+    let bytes = [4, 0, 4, 0, 0, 0, 2, 0, 1, 0, 120, 1, 0, 121, 1, 8];
+    comes_back(&rt, &many, ColType::Text, &bytes)?;
+    comes_back(
+        &rt,
+        &[text(&rt, b"")?],
+        ColType::Text,
+        &[1, 0, 1, 0, 0, 0, 0, 0],
+    )?;
+    let long = vec![in rt.alloc(); 97; 65535]?;
+    has_len(&rt, &[text(&rt, &long)?, Value::Null], ColType::Text, 65544)
+}
+
+#[test]
+fn widths(rt: HostRuntime) -> Result<(), Fail> {
+    let table: [(i64, usize); 5] = [
+        (1, 271),
+        (127, 1807),
+        (255, 2063),
+        (2147483647, 7951),
+        (8589934591, 8463),
+    ];
+    for (greatest, len) in table {
+        let mut values = Vec::new(rt.alloc());
+        for i in 0..1024u32 {
+            values.push(Value::Big(0))?;
+            values.push(Value::Big(if i % 2 == 0 { greatest } else { 0 }))?;
+        }
+        has_len(&rt, &values, ColType::Big, len)?;
+    }
+    Ok(())
+}
+
+#[test]
+fn first_faults(rt: HostRuntime) {
+    let faults: [(&[u8], u64); 13] = [
+        (&[], 0),
+        (&[5, 0, 1, 0, 0, 0, 0], 0),
+        (&[4, 0, 1, 0, 0, 0, 0], 0),
+        (&[1, 2, 3, 0, 0, 0, 5, 0, 0, 0, 0, 0, 0, 0], 1),
+        (&[1, 0, 0, 0, 0, 0, 5, 0, 0, 0, 0, 0, 0, 0], 2),
+        (&[1, 0, 1, 8, 0, 0, 5, 0, 0, 0, 0, 0, 0, 0], 2),
+        (&[1, 0, 3, 0, 0, 0, 5, 0, 0, 0, 0, 0, 0], 6),
+        (&[1, 0, 3, 0, 0, 0, 5, 0, 0, 0, 0, 0, 0, 0, 9], 14),
+        (&[1, 1, 3, 0, 0, 0], 6),
+        (&[1, 1, 3, 0, 0, 0, 7, 5, 0, 0, 0, 0, 0, 0, 0], 6),
+        (&[1, 1, 3, 0, 0, 0, 9, 5, 0, 0, 0, 0, 0, 0, 0], 6),
+        (&[1, 1, 3, 0, 0, 0, 0, 5, 0, 0, 0, 0, 0, 0, 0], 6),
+        (&[3, 1, 3, 0, 0, 0, 5, 10, 0, 0, 0, 0, 0, 0, 0, 2, 28], 16),
+    ];
+    for (bytes, at) in faults {
+        let read = decode(rt.alloc(), bytes, ColType::Big);
+        assert!(rt; matches!(read, Err(SegError::Malformed { at: place }) if place == at));
+    }
+}
+
+/// Cut anywhere, or with a bit turned, the bytes are refused within them or stand for a column.
+fn stays_lawful<R: AllocGlobal + Abort>(rt: &R, bytes: &[u8], kind: ColType) -> Result<(), Fail> {
+    for end in 0..bytes.len() {
+        assert!(rt;
+            matches!(decode(rt.alloc(), &bytes[..end], kind), Err(SegError::Malformed { at }) if at <= end as u64)
+        );
+    }
+    for place in 0..bytes.len() {
+        for bit in 0..8u32 {
+            let mut changed = Vec::from_slice(rt.alloc(), bytes)?;
+            if let Some(byte) = changed.get_mut(place) {
+                *byte ^= 1 << bit;
+            }
+            match decode(rt.alloc(), &changed, kind) {
+                Ok(values) => assert!(rt; is_column(&values, kind)),
+                Err(error) => assert!(rt;
+                    matches!(error, SegError::Malformed { at } if at <= bytes.len() as u64)
+                ),
+            }
+        }
+    }
+    Ok(())
+}
+
+#[test]
+fn changed_bytes(rt: HostRuntime) -> Result<(), Fail> {
+    stays_lawful(
+        &rt,
+        &[1, 0, 3, 0, 0, 0, 5, 0, 0, 0, 0, 0, 0, 0],
+        ColType::Big,
+    )?;
+    stays_lawful(
+        &rt,
+        &[3, 1, 3, 0, 0, 0, 5, 10, 0, 0, 0, 0, 0, 0, 0, 2, 12],
+        ColType::Big,
+    )?;
+    stays_lawful(
+        &rt,
+        &[2, 0, 3, 0, 0, 0, 2, 0, 0, 0, 1, 2, 0, 0, 1, 0],
+        ColType::Bool,
+    )?;
+    stays_lawful(
+        &rt,
+        &[0, 0, 3, 0, 0, 0, 1, 0, 97, 1, 0, 98, 1, 0, 97],
+        ColType::Text,
+    )?;
+    stays_lawful(
+        &rt,
+        &[4, 0, 4, 0, 0, 0, 2, 0, 1, 0, 120, 1, 0, 121, 1, 8],
+        ColType::Text,
+    )
+}
