@@ -2,8 +2,13 @@
 #![tactic(auto)]
 
 mod bytes;
+mod calls;
+mod change;
 mod device;
+mod faults;
+mod file;
 mod memory;
 
+pub use calls::{DiskCall, Handed, Written};
 pub use device::{Disk, Failed, FileId};
 pub use memory::MemoryDisk;

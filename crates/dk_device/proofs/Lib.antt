@@ -1,0 +1,3 @@
+mod OneMore
+mod Outcome
+mod Step
