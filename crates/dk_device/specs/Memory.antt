@@ -11,7 +11,6 @@ use Rattle.dk_device.specs.declared.faults.Faults.{Faults}
 use Rattle.dk_device.specs.declared.faults.Fault.{Fault}
 use Rattle.dk_device.specs.declared.faults.Fault.TheVariants.{Listed, Refused, Ended, Passing}
 use Rattle.dk_device.specs.Causes.{Rose}
-use Rattle.dk_device.specs.Disk.{of_file}
 use Rattle.dk_device.specs.File.{FileState}
 use Rattle.dk_device.specs.Replay.{History, content_of, content_after, called, unlisted}
 
@@ -31,13 +30,6 @@ pub record Stands (main wal : FileState) (calls : List DiskCall) (moment : ℕ) 
   pub wal_bytes : wal.bytes ≡ content_after Wal wal.start calls
   pub in_time : IsInTime moment calls
   pub bound : moment ≤ 2 ^ 62
-
--- a place within a file of this length
-abbrev pub IsLawful : ℕ → Handed → Type 0
-IsLawful len (Read at n) = Unit {0}
-IsLawful len (Write at bytes) = at ≤ len
-IsLawful len (Cut n) = Unit {0}
-IsLawful len Sync = Unit {0}
 
 -- a count that stands still at its last value
 abbrev pub next_count : ℕ → ℕ

@@ -2,9 +2,8 @@
 ghost use Rattle.std.specs.Prelude.{◌≡◌, ◌⊎◌, ◌≤◌, ◌<◌, ◌+◌, ◌^◌, length, true, false, is_none, OnOk, OnErr};
 ghost use Rattle.dk_device.specs.declared.device.FileId.TheVariants.{Main, Wal};
 ghost use Rattle.dk_device.specs.declared.faults.Fault.TheVariants.{Listed, Refused, Ended, Passing};
-ghost use Rattle.dk_device.specs.Memory.{IsLawful, PassesEnd, is_listed, FaultShows};
+ghost use Rattle.dk_device.specs.Memory.{PassesEnd, is_listed, FaultShows};
 ghost use Rattle.dk_device.specs.Replay.{effect, done_by, made_by};
-ghost use Rattle.dk_device.specs.Disk.{of_file};
 
 use crate::FileId;
 use crate::calls::Handed;
@@ -17,7 +16,6 @@ const MOST_BYTES: u64 = 1 << 62;
 
 /// Does what a call asks for to its file.
 fn apply(target: &mut MemoryFile, handed: &Handed) -> Result<(), OutOfMemory>
-    requires { IsLawful (length target.old.bytes) handed.now }
     ensures start { target.new.start ≡ target.old.start }
     ensures ok { OnOk result (target.new.bytes ≡ effect handed.now target.old.bytes) }
     ensures err { OnErr result (target.new.bytes ≡ target.old.bytes) }
@@ -43,7 +41,6 @@ fn passes_end(handed: &Handed) -> bool
 
 /// Does what a call asks for, unless it is to fail.
 fn attempt(target: &mut MemoryFile, failing: &[u64], now: u64, handed: &Handed) -> Option<Fault>
-    requires { IsLawful (length target.old.bytes) handed.now }
     ensures start { target.new.start ≡ target.old.start }
     ensures bytes { target.new.bytes ≡ done_by (is_none result) handed.now target.old.bytes }
     ensures shows { FaultShows failing.now now handed.now result }
@@ -69,7 +66,6 @@ pub(crate) fn attempt_at(
     now: u64,
     handed: &Handed,
 ) -> Option<Fault>
-    requires { IsLawful (of_file file (length main.old.bytes) (length wal.old.bytes)) handed.now }
     ensures main_start { main.new.start ≡ main.old.start }
     ensures wal_start { wal.new.start ≡ wal.old.start }
     ensures main { main.new.bytes ≡ made_by (is_none result) Main file handed.now main.old.bytes }

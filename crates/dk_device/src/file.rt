@@ -1,7 +1,11 @@
 // A file in memory, which keeps what it held at first.
-ghost use Rattle.std.specs.Prelude.{◌≡◌, ◌≤◌, length, take, IfOk, OnOk, OnErr};
+ghost use Rattle.std.specs.Prelude.{◌≡◌, ◌≤◌, length, take, nat_lt, IfOk, OnOk, OnErr};
+ghost use Rattle.std.specs.List.{filter};
 
 use crate::bytes::overwrite;
+use crate::calls::DiskCall;
+use crate::image::replay;
+use crate::{Choice, FileId};
 use std::alloc::AllocError as OutOfMemory;
 use std::marker::Model;
 
@@ -22,6 +26,7 @@ impl Model for MemoryFile {
 
 impl MemoryFile {
     ghost use Rattle.dk_device.specs.Disk.{overlaid};
+    ghost use Rattle.dk_device.specs.Image.{image_after};
 
     pub(crate) fn new(start: Vec<u8>) -> MemoryFile
         ensures start { result.start ≡ start.items }
@@ -42,10 +47,18 @@ impl MemoryFile {
         }
     }
 
-    pub(crate) fn start(&self) -> &Vec<u8>
-        ensures { result.now.items ≡ self.now.start }
+    /// What a crash leaves behind the calls before a moment.
+    pub(crate) fn image(
+        &self,
+        calls: &[DiskCall],
+        file: FileId,
+        moment: u64,
+        choice: Choice,
+    ) -> Result<Vec<u8>, OutOfMemory>
+        ensures { IfOk result (λ image. image.items ≡ image_after choice file self.now.start self.now.start (filter (λ call. nat_lt call.moment moment) calls.now)) }
     {
-        &self.start
+        let alloc = *self.start.allocator();
+        replay(alloc, self.start.as_slice(), calls, file, moment, choice)
     }
 
     /// The bytes, to be put back by `put`.
@@ -69,7 +82,6 @@ impl MemoryFile {
 
     /// Writes over the bytes at a place, and past the end.
     pub(crate) fn write(&mut self, at: usize, bytes: &[u8]) -> Result<(), OutOfMemory>
-        requires { at ≤ length self.old.bytes }
         ensures start { self.new.start ≡ self.old.start }
         ensures ok { OnOk result (self.new.bytes ≡ overlaid at bytes.now self.old.bytes) }
         ensures err { OnErr result (self.new.bytes ≡ self.old.bytes) }

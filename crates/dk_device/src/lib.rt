@@ -7,8 +7,13 @@ mod change;
 mod device;
 mod faults;
 mod file;
+mod host;
+mod host_file;
+mod image;
 mod memory;
 
 pub use calls::{DiskCall, Handed, Written};
 pub use device::{Disk, Failed, FileId};
+pub use host::HostDisk;
+pub use image::Choice;
 pub use memory::MemoryDisk;

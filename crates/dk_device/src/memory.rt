@@ -6,7 +6,7 @@ use crate::calls::{DiskCall, Handed, Written};
 use crate::change::attempt_at;
 use crate::faults::{Fault, Faults};
 use crate::file::MemoryFile;
-use crate::{Disk, Failed, FileId};
+use crate::{Choice, Disk, Failed, FileId};
 use std::alloc::{AllocError as OutOfMemory, Global};
 use std::marker::Model;
 
@@ -48,8 +48,10 @@ impl MemoryDisk {
     ghost use Rattle.dk_device.specs.declared.calls.Handed.TheVariants.{Read, Write, Cut, Sync};
     ghost use Rattle.dk_device.specs.declared.faults.Fault.TheVariants.{Listed, Refused, Ended, Passing};
     ghost use Rattle.dk_device.specs.Causes.{Rose, HasCause};
-    ghost use Rattle.dk_device.specs.Replay.{called, unlisted, content_of};
-    ghost use Rattle.dk_device.specs.Memory.{IsLawful, IsInTime, Went, Told, counted, total};
+    ghost use Rattle.dk_device.specs.Replay.{called, unlisted, content_of, left_of};
+    ghost use Rattle.dk_device.specs.Image.{image_of};
+    ghost use Rattle.dk_device.specs.declared.device.FileId.TheVariants.{Main, Wal};
+    ghost use Rattle.dk_device.specs.Memory.{IsInTime, Went, Told, counted, total};
 
     /// A disk that holds these bytes, and fails at the listed moments.
     pub fn new(main: Vec<u8>, wal: Vec<u8>, failing: Vec<u64>) -> MemoryDisk
@@ -75,6 +77,19 @@ impl MemoryDisk {
         self.faults.refused
     }
 
+    /// One image of a crash just before the call of that number.
+    pub fn image_at(&self, moment: u64, choice: Choice) -> Result<(Vec<u8>, Vec<u8>), OutOfMemory>
+        requires { moment ≤ self.now.history.moment }
+        ensures chosen { IfOk result (λ image. (image.0.items ≡ image_of self.now.history moment choice Main) × (image.1.items ≡ image_of self.now.history moment choice Wal)) }
+        ensures main { IfOk result (λ image. left_of self.now.history moment Main image.0.items) }
+        ensures wal { IfOk result (λ image. left_of self.now.history moment Wal image.1.items) }
+    {
+        let calls = self.calls.as_slice();
+        let main = self.main.image(calls, FileId::Main, moment, choice)?;
+        let wal = self.wal.image(calls, FileId::Wal, moment, choice)?;
+        Ok((main, wal))
+    }
+
     /// Begins a call that leaves nothing in the list and fails.
     fn fail(&mut self, fault: Fault) -> Failed
         ensures history { self.new.history ≡ unlisted self.old.history }
@@ -92,7 +107,6 @@ impl MemoryDisk {
 
     /// Begins a call, and does it unless it is to fail.
     fn perform(&mut self, file: FileId, handed: Handed) -> Result<(), Failed>
-        requires { IsLawful (length (content_of self.old.history file)) handed }
         ensures went { Went file handed result self.old.history self.new.history }
         ensures failing { self.new.failing ≡ self.old.failing }
         ensures told { Told self.old handed (is_ok result) self.new }
@@ -145,7 +159,6 @@ impl MemoryDisk {
 
     /// Begins a write, with a copy of the bytes for the list.
     fn write(&mut self, file: FileId, at: u64, bytes: &[u8]) -> Result<(), Failed>
-        requires { at ≤ length (content_of self.old.history file) }
         ensures went { Went file (Write at bytes.now) result self.old.history self.new.history }
         ensures failing { self.new.failing ≡ self.old.failing }
         ensures told { Told self.old (Write at bytes.now) (is_ok result) self.new }
