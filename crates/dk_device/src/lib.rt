@@ -11,6 +11,8 @@ mod host;
 mod host_file;
 mod image;
 mod memory;
+#[cfg(test)]
+mod tests;
 
 pub use calls::{DiskCall, Handed, Written};
 pub use device::{Disk, Failed, FileId};

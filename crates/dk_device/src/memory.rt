@@ -231,3 +231,40 @@ impl Disk for MemoryDisk {
         self.moment
     }
 }
+
+#[cfg(test)]
+mod tests {
+    use super::*;
+    use std::test::Fail;
+
+    fn empty(alloc: Global, moment: u64) -> MemoryDisk {
+        MemoryDisk {
+            main: MemoryFile::new(Vec::new(alloc)),
+            wal: MemoryFile::new(Vec::new(alloc)),
+            failing: Vec::new(alloc),
+            calls: Vec::new(alloc),
+            moment: moment.min(LAST_MOMENT),
+            faults: Faults::none(),
+        }
+    }
+
+    fn write_far(disk: &mut MemoryDisk) -> Result<(), Failed> {
+        disk.write(FileId::Main, 1 << 62, b"a")
+    }
+
+    #[test]
+    fn a_disk_at_its_last_moment_fails(rt: HostRuntime) -> Result<(), Fail> {
+        let mut disk = empty(rt.alloc(), LAST_MOMENT);
+        assert!(rt; disk.sync(FileId::Wal).is_err());
+        assert_eq!(rt; (disk.moment, disk.faults.ended), (LAST_MOMENT, 1));
+        Ok(())
+    }
+
+    #[test]
+    fn a_write_past_the_end_fails(rt: HostRuntime) -> Result<(), Fail> {
+        let mut disk = empty(rt.alloc(), 0);
+        assert!(rt; write_far(&mut disk).is_err());
+        assert_eq!(rt; (disk.moment, disk.faults.passing), (1, 1));
+        Ok(())
+    }
+}
