@@ -1,8 +1,8 @@
 -- Flags, and the numbers of those that are set.
-use Rattle.std.specs.Prelude.{◌≡◌, ◌⊎◌, ℕ, zero, suc, ◌+◌, ◌<◌, ◌≤◌, max, Bool, true, false, List, [], ◌∷◌, ◌++◌, length, get_or, set, replicate, refl}
-use Rattle.std.proofs.Common.{inl, inr, sym, ◌∙◌, ap, subst, arith, add-one}
+use Rattle.std.specs.Prelude.{◌≡◌, ℕ, zero, suc, ◌+◌, ◌<◌, ◌≤◌, Bool, true, false, List, [], ◌∷◌, ◌++◌, length, get_or, set, replicate, refl}
+use Rattle.std.proofs.Common.{sym, ◌∙◌, ap, arith}
 use Rattle.std.proofs.lemmas.Bool.{eq-eqb, ne_eqb, lt-ltb, le-ltb}
-use Rattle.dk_block_man.specs.Used.{used_from, is_among, least_from, with_block, without_block, AllUsed}
+use Rattle.dk_block_man.specs.Used.{used_from, is_among, least_from, with_block, without_block}
 
 -- no number below the first is among them
 pub none_below : (n m : ℕ) (flags : List Bool) → m < n → is_among (used_from n flags) m ≡ false

@@ -1,9 +1,9 @@
 -- What a change of a flag does to the used blocks.
-use Rattle.std.specs.Prelude.{◌≡◌, ◌⊎◌, ℕ, zero, suc, ◌+◌, ◌<◌, ◌≤◌, max, Bool, true, false, not, nat_lt, List, [], ◌∷◌, ◌++◌, length, get_or, set, Result, Ok, Err, OnErr, refl}
-use Rattle.std.proofs.Common.{inl, inr, sym, ◌∙◌, ap, subst, arith}
+use Rattle.std.specs.Prelude.{◌≡◌, ℕ, ◌+◌, ◌<◌, ◌≤◌, Bool, true, false, nat_lt, List, [], ◌∷◌, ◌++◌, length, get_or, set, Result, Ok, Err, OnErr}
+use Rattle.std.proofs.Common.{inl, inr, sym, ◌∙◌, ap, arith}
 use Rattle.std.proofs.lemmas.Bool.{cases_lt, le-ltb}
 use Rattle.std.proofs.lemmas.List.{get_or_default, get_or_past}
-use Rattle.dk_block_man.specs.Used.{used_from, used_of, is_among, least_from, least_unused, with_block, without_block, AllUsed}
+use Rattle.dk_block_man.specs.Used.{used_of, is_among, least_unused, with_block, without_block, AllUsed}
 use Rattle.dk_block_man.proofs.Flags.{among, used-set, used-push, used-clear, least-is}
 
 from_zero : (n : ℕ) → 0 + n ≡ n

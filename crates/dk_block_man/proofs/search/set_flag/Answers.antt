@@ -1,4 +1,4 @@
-use Rattle.std.proofs.Common.{◌≡◌, Bool, not, true, false, List, ℕ, ap, sym, ◌∙◌, arith}
+use Rattle.std.proofs.Common.{Bool, List, ap, ◌∙◌, arith}
 use Rattle.dk_block_man.proofs.Marks.{set_of, push_of}
 use Rattle.dk_block_man.specs.Used.{used_of}
 use Rattle.dk_block_man.proofs.search.set_flag.Goals as goal

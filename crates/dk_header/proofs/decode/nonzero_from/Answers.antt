@@ -1,4 +1,4 @@
-use Rattle.std.proofs.Common.{◌≡◌, not, ◌==◌, List, ℕ, ap, ◌∙◌}
+use Rattle.std.proofs.Common.{not, ◌==◌, List, ℕ, ap, ◌∙◌}
 use Rattle.std.specs.List.{position}
 use Rattle.dk_header.specs.Layout.{moved}
 use Rattle.dk_header.proofs.decode.nonzero_from.Goals as goal

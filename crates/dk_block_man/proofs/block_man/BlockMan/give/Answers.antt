@@ -1,4 +1,4 @@
-use Rattle.std.proofs.Common.{◌≡◌, Bool, not, true, false, List, ℕ, ap, sym, ◌∙◌, arith}
+use Rattle.std.proofs.Common.{ap, arith}
 use Rattle.dk_block_man.specs.Used.{Blocks}
 use Rattle.dk_block_man.proofs.Marks.{among_within, clear_of}
 use Rattle.dk_block_man.proofs.block_man.BlockMan.give.Goals as goal

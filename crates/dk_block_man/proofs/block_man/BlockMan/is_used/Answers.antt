@@ -1,4 +1,4 @@
-use Rattle.std.proofs.Common.{◌≡◌, Bool, not, true, false, List, ℕ, ap, sym, ◌∙◌, arith}
+use Rattle.std.proofs.Common.{ap, arith}
 use Rattle.dk_block_man.specs.Used.{Blocks}
 use Rattle.dk_block_man.proofs.Marks.{read_is, else_is}
 use Rattle.dk_block_man.proofs.block_man.BlockMan.is_used.Goals as goal

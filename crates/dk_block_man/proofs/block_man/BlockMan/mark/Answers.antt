@@ -1,4 +1,4 @@
-use Rattle.std.proofs.Common.{◌≡◌, Bool, not, true, false, List, ℕ, ap, sym, ◌∙◌, arith}
+use Rattle.std.proofs.Common.{not, ap, sym, ◌∙◌, arith}
 use Rattle.dk_block_man.specs.Used.{Blocks}
 use Rattle.dk_block_man.proofs.Marks.{read_is, mark_of}
 use Rattle.dk_block_man.proofs.block_man.BlockMan.mark.Goals as goal

@@ -1,5 +1,4 @@
-use Rattle.std.proofs.Common.{◌≡◌, Bool, not, true, false, List, ℕ, ap, sym, ◌∙◌, arith}
-use Rattle.dk_block_man.specs.Used.{Blocks}
+use Rattle.std.proofs.Common.{Bool, List, ap, ◌∙◌}
 use Rattle.dk_block_man.specs.Used.{used_of}
 use Rattle.dk_block_man.proofs.Flags.{used-none}
 use Rattle.dk_block_man.proofs.block_man.BlockMan.new.Goals as goal

@@ -1,4 +1,4 @@
-use Rattle.std.proofs.Common.{◌≡◌, Bool, not, true, false, List, ℕ, ap, sym, ◌∙◌, arith}
+use Rattle.std.proofs.Common.{Bool, List, ap, sym, ◌∙◌}
 use Rattle.dk_block_man.specs.Used.{Blocks}
 use Rattle.dk_block_man.specs.Used.{used_of}
 use Rattle.dk_block_man.proofs.Marks.{least_of, unused_of, on_err}
