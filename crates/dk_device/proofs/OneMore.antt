@@ -1,5 +1,5 @@
 -- One call more, in the list of a disk in memory.
-use Rattle.std.specs.Prelude.{◌≡◌, ◌⊎◌, ℕ, ◌+◌, ◌^◌, ◌<◌, ◌≤◌, min, Bool, true, false, List, [], ◌∷◌, ◌++◌, nat_lt, nat_le, refl}
+use Rattle.std.specs.Prelude.{◌≡◌, ℕ, ◌+◌, ◌^◌, ◌<◌, ◌≤◌, Bool, List, [], ◌∷◌, ◌++◌, nat_lt, refl}
 use Rattle.std.proofs.Common.{inl, inr, sym, ◌∙◌, ap, subst, arith}
 use Rattle.std.proofs.lemmas.Bool.{le-leb, lt-leb, lt-ltb, le-ltb, cases_lt}
 use Rattle.std.proofs.lemmas.List.{append-nil}
@@ -9,10 +9,10 @@ use Rattle.dk_device.specs.declared.device.FileId.{FileId}
 use Rattle.dk_device.specs.declared.device.FileId.TheVariants.{Main, Wal}
 use Rattle.dk_device.specs.declared.calls.DiskCall.{DiskCall}
 use Rattle.dk_device.specs.declared.calls.Handed.{Handed}
-use Rattle.dk_device.specs.Disk.{call_at, next_moment}
+use Rattle.dk_device.specs.Disk.{call_at}
 use Rattle.dk_device.specs.File.{FileState}
 use Rattle.dk_device.specs.Memory.{IsInTime, Stands}
-use Rattle.dk_device.specs.Replay.{History, Leaves, made_by, LeftAfter, content_after, calls_before, called, unlisted}
+use Rattle.dk_device.specs.Replay.{History, Leaves, made_by, LeftAfter, content_after, calls_before}
 
 pub content-push : (file : FileId) (now : List ℕ) (calls : List DiskCall) (call : DiskCall) → content_after file now (calls ++ call ∷ []) ≡ made_by call.done file call.file call.handed (content_after file now calls)
 content-push file now [] call = refl

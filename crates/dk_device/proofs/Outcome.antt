@@ -1,17 +1,16 @@
 -- What the caller of a call sees of it.
-use Rattle.std.specs.Prelude.{◌≡◌, ◌⊎◌, ◌↔◌, ℕ, ◌+◌, ◌-◌, ◌^◌, ◌<◌, ◌≤◌, min, max, Bool, true, false, List, [], ◌∷◌, ◌++◌, length, take, drop, Result, Ok, Err, is_ok, IsErr, Option, Some, OnOk, OnErr, refl}
-use Rattle.std.proofs.Common.{inl, inr, ⊎_elim, sym, ◌∙◌, ap, subst, arith, length-append, length-drop}
+use Rattle.std.specs.Prelude.{◌≡◌, ◌⊎◌, ◌↔◌, ℕ, ◌+◌, ◌^◌, ◌<◌, ◌≤◌, max, Bool, true, false, List, length, Result, Ok, Err, is_ok, IsErr, Some, OnOk, OnErr, refl}
+use Rattle.std.proofs.Common.{inl, inr, ⊎_elim, sym, ◌∙◌, ap, subst, arith}
 use Rattle.std.proofs.lemmas.List.{length-take, take_min}
 use Rattle.dk_device.specs.declared.device.Failed.{Failed}
 use Rattle.dk_device.specs.declared.device.FileId.{FileId}
 use Rattle.dk_device.specs.declared.device.FileId.TheVariants.{Main, Wal}
-use Rattle.dk_device.specs.declared.calls.DiskCall.{DiskCall}
 use Rattle.dk_device.specs.declared.calls.Handed.{Handed}
 use Rattle.dk_device.specs.declared.calls.Handed.TheVariants.{Read, Write, Cut, Sync}
-use Rattle.dk_device.specs.Disk.{call_at, with_call, overlaid, TornWrite, TornCut, other, SameImages, SameFiles, Elapses, Follows, Allows}
+use Rattle.dk_device.specs.Disk.{overlaid, TornWrite, TornCut, other, SameImages, SameFiles, Elapses, Follows, Allows}
 use Rattle.dk_device.specs.Left.{length-overlaid, content_is_left}
-use Rattle.dk_device.specs.Memory.{MemoryState, IsInTime, Went, Told, PassesEnd}
-use Rattle.dk_device.specs.Replay.{History, LeftIf, LeftBy, effect, done_by, content_of, left_of, called, unlisted}
+use Rattle.dk_device.specs.Memory.{MemoryState, IsInTime, Went, Told}
+use Rattle.dk_device.specs.Replay.{History, LeftIf, LeftBy, effect, content_of, left_of, called, unlisted}
 use Rattle.dk_device.proofs.Step.{Now, follows, allows, other_images, content_called, other_content, elapses_called, same_images, same_content, elapses_unlisted}
 
 -- in the list, done or not, or not in it

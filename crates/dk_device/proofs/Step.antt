@@ -1,6 +1,6 @@
 -- What a call does to the files of a disk in memory, and to what a crash may leave of them.
-use Rattle.std.specs.Prelude.{◌≡◌, ◌⊎◌, ◌↔◌, ℕ, ◌+◌, ◌^◌, ◌<◌, ◌≤◌, min, Bool, true, false, List, [], ◌∷◌, ◌++◌, refl}
-use Rattle.std.proofs.Common.{inl, inr, ⊎_elim, sym, ◌∙◌, ap, subst, arith}
+use Rattle.std.specs.Prelude.{◌≡◌, ◌↔◌, ℕ, ◌+◌, ◌^◌, ◌≤◌, Bool, List, [], ◌∷◌, ◌++◌, refl}
+use Rattle.std.proofs.Common.{sym, ◌∙◌, ap, subst, arith}
 use Rattle.std.proofs.lemmas.Bool.{le-leb}
 use Rattle.dk_device.specs.declared.device.FileId.{FileId}
 use Rattle.dk_device.specs.declared.device.FileId.TheVariants.{Main, Wal}
@@ -8,8 +8,8 @@ use Rattle.dk_device.specs.declared.calls.DiskCall.{DiskCall}
 use Rattle.dk_device.specs.declared.calls.Handed.{Handed}
 use Rattle.dk_device.specs.Disk.{call_at, next_moment, other, SameImages, SameFiles, Elapses, Follows, Allows}
 use Rattle.dk_device.specs.Memory.{IsInTime}
-use Rattle.dk_device.specs.Replay.{History, LeftIf, Leaves, done_by, made_by, LeftAfter, content_after, content_of, left_of, start_of, calls_before, called, unlisted}
-use Rattle.dk_device.proofs.OneMore.{content-push, left-push, left-pop, before, before-push_late, calls_before-is, in_time-later, in_time-push}
+use Rattle.dk_device.specs.Replay.{History, LeftIf, Leaves, done_by, made_by, LeftAfter, content_of, left_of, start_of, calls_before, called, unlisted}
+use Rattle.dk_device.proofs.OneMore.{content-push, left-push, left-pop, before-push_late, calls_before-is, in_time-later, in_time-push}
 
 -- what a crash now may leave
 abbrev pub Now : History → FileId → List ℕ → Type 0

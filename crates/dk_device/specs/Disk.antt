@@ -1,7 +1,6 @@
 -- What the calls of a disk do to its two files, and what a crash may leave of each.
-use Rattle.std.specs.Prelude.{◌≡◌, ◌⊎◌, ◌↔◌, ℕ, ◌+◌, ◌^◌, ◌≤◌, min, max, Bool, List, [], ◌∷◌, ◌++◌, length, take, drop, Option, Some, Result, OnOk, OnErr}
+use Rattle.std.specs.Prelude.{◌≡◌, ◌↔◌, ℕ, ◌+◌, ◌^◌, ◌≤◌, min, max, Bool, List, [], ◌∷◌, ◌++◌, length, take, drop, Option}
 use Rattle.std.proofs.Common.{option_map}
-use Rattle.dk_device.specs.declared.device.Failed.{Failed}
 use Rattle.dk_device.specs.declared.device.FileId.{FileId}
 use Rattle.dk_device.specs.declared.device.FileId.TheVariants.{Main, Wal}
 use Rattle.dk_device.specs.declared.calls.DiskCall.{DiskCall}

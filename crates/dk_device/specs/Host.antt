@@ -1,5 +1,5 @@
 -- A disk over two real files, of which only lengths and counts are told.
-use Rattle.std.specs.Prelude.{◌≡◌, ℕ, List, Option, None, Some}
+use Rattle.std.specs.Prelude.{◌≡◌, ℕ, List, None, Some}
 
 pub record HostState : Type 0 where
   pub main : ℕ

@@ -12,7 +12,7 @@ use Rattle.dk_device.specs.declared.faults.Fault.{Fault}
 use Rattle.dk_device.specs.declared.faults.Fault.TheVariants.{Listed, Refused, Ended, Passing}
 use Rattle.dk_device.specs.Causes.{Rose}
 use Rattle.dk_device.specs.File.{FileState}
-use Rattle.dk_device.specs.Replay.{History, content_of, content_after, called, unlisted}
+use Rattle.dk_device.specs.Replay.{History, content_after, called, unlisted}
 
 pub record MemoryState : Type 0 where
   pub history : History

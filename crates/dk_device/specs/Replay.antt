@@ -1,5 +1,5 @@
 -- What a list of calls makes of a file, and what a crash behind them may leave of it.
-use Rattle.std.specs.Prelude.{◌≡◌, ℕ, ◌+◌, ◌<◌, Bool, true, false, List, [], ◌∷◌, ◌++◌, length, take, nat_lt, nat_le, if◌then◌else◌}
+use Rattle.std.specs.Prelude.{◌≡◌, ℕ, ◌+◌, Bool, true, false, List, [], ◌∷◌, ◌++◌, length, take, nat_lt, nat_le, if◌then◌else◌}
 use Rattle.std.specs.List.{filter}
 use Rattle.dk_device.specs.declared.device.FileId.{FileId}
 use Rattle.dk_device.specs.declared.device.FileId.TheVariants.{Main, Wal}

@@ -18,6 +18,17 @@ pub enum FileId {
 #[error("disk fault")]
 pub struct Failed;
 
+/// A call above the disk that a failed call of it ended.
+#[derive(Clone, Copy, Debug, PartialEq, Eq, Drop, Error)]
+#[error("disk fault")]
+pub struct DiskFault;
+
+impl From<Failed> for DiskFault {
+    fn from(_: Failed) -> DiskFault {
+        DiskFault
+    }
+}
+
 /// Two files, and what a crash may leave of them.
 ///
 /// A call that failed may have done its work, a part of it or nothing.

@@ -1,4 +1,4 @@
-use Rattle.std.proofs.Common.{◌≡◌, Bool, true, false, not, is_none, is_some, Option, None, Some, ◌++◌, ◌∷◌, [], List, ap, ◌∙◌, sym, refl, arith}
+use Rattle.std.proofs.Common.{◌≡◌, Bool, true, false, not, is_none, is_some, Option, None, Some, ◌++◌, ◌∷◌, [], List, ap, ◌∙◌, refl, arith}
 use Rattle.dk_device.specs.declared.calls.DiskCall.{DiskCall}
 use Rattle.dk_device.specs.Disk.{call_at}
 use Rattle.dk_device.proofs.OneMore.{stands_called}

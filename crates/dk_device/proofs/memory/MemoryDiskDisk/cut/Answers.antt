@@ -1,4 +1,4 @@
-use Rattle.std.proofs.Common.{Some, ap, ◌∙◌, length, arith}
+use Rattle.std.proofs.Common.{Some, ap, ◌∙◌, length}
 use Rattle.std.proofs.lemmas.List.{length-take-le}
 use Rattle.dk_device.specs.Disk.{TornCut}
 use Rattle.dk_device.proofs.Outcome.{done_content, on_ok, cut_length, crashes, allowed, stays, not_cut, other_same, other_left, elapses}

@@ -1,4 +1,4 @@
-use Rattle.std.proofs.Common.{Some, ap, ◌∙◌, length, arith}
+use Rattle.std.proofs.Common.{Some, ap, ◌∙◌, length}
 use Rattle.dk_device.specs.Disk.{TornWrite}
 use Rattle.dk_device.proofs.Outcome.{done_content, on_ok, write_length, grown, crashes, allowed, stays, not_torn, too_far, other_same, other_left, elapses}
 use Rattle.dk_device.proofs.memory.MemoryDiskDisk.write_at.Goals as goal
