@@ -9,6 +9,8 @@ mod buffer;
 mod empty;
 mod fault;
 mod flip;
+#[cfg(test)]
+mod tests;
 
 pub use buffer::{BlockBuf, read_block, write_block};
 pub use empty::create;
