@@ -1,1 +1,9 @@
+pub mod Causes
+pub mod Disk
+pub mod File
+pub mod Host
+pub mod HostFiles
+pub mod Image
+pub mod Left
 pub mod Memory
+pub mod Replay

@@ -1,5 +1,6 @@
 // Bytes written over others.
 ghost use Rattle.std.specs.Prelude.{◌≡◌, ◌+◌, ◌≤◌, ◌++◌, length, take, drop, vec_len, OnOk, OnErr};
+ghost use Rattle.dk_device.specs.Disk.{overlaid};
 
 use std::alloc::AllocError as OutOfMemory;
 
@@ -12,10 +13,10 @@ fn put_over(target: &mut [u8], at: usize, bytes: &[u8])
     place.copy_from_slice(bytes);
 }
 
-/// Writes the bytes over those at a place, and past the end.
-pub(crate) fn overwrite(content: &mut Vec<u8>, at: usize, bytes: &[u8]) -> Result<(), OutOfMemory>
+/// Writes the bytes over those at a place within, and past the end.
+fn overwrite_within(content: &mut Vec<u8>, at: usize, bytes: &[u8]) -> Result<(), OutOfMemory>
     requires { at ≤ vec_len content.old }
-    ensures ok { OnOk result (content.new.items ≡ take at content.old.items ++ bytes.now ++ drop (at + length bytes.now) content.old.items) }
+    ensures ok { OnOk result (content.new.items ≡ overlaid at bytes.now content.old.items) }
     ensures err { OnErr result (content.new.items ≡ content.old.items) }
 {
     let inside = bytes.len().min(content.len() - at);
@@ -23,4 +24,14 @@ pub(crate) fn overwrite(content: &mut Vec<u8>, at: usize, bytes: &[u8]) -> Resul
     content.extend_from_slice(past)?;
     put_over(content.as_mut_slice(), at, over);
     Ok(())
+}
+
+/// Writes the bytes over those at a place, or at the end where the place is past it.
+#[tactic(auto, using(crate::proofs::Overlaid::overlaid_min))]
+pub(crate) fn overwrite(content: &mut Vec<u8>, at: usize, bytes: &[u8]) -> Result<(), OutOfMemory>
+    ensures ok { OnOk result (content.new.items ≡ overlaid at bytes.now content.old.items) }
+    ensures err { OnErr result (content.new.items ≡ content.old.items) }
+{
+    let within = at.min(content.len());
+    overwrite_within(content, within, bytes)
 }

@@ -1,5 +1,6 @@
 // A disk of two files, as the store sees it.
-ghost use Rattle.std.specs.Prelude.{◌≡◌, ◌+◌, ◌≤◌, ◌^◌, ◌<◌, ℕ, length};
+ghost use Rattle.std.specs.Prelude.{◌≡◌, ◌⊎◌, ◌↔◌, ◌+◌, ◌-◌, ◌≤◌, ◌^◌, ◌<◌, ℕ, List, [], ◌∷◌, ◌++◌, length, take, drop, max, Bool, true, false, is_ok, Option, Some, IfSome, IsErr, OnOk, OnErr};
+ghost use Rattle.std.proofs.Common.{option_map};
 
 use thiserror::Error;
 
@@ -17,31 +18,126 @@ pub enum FileId {
 #[error("disk fault")]
 pub struct Failed;
 
+/// A call above the disk that a failed call of it ended.
+#[derive(Clone, Copy, Debug, PartialEq, Eq, Drop, Error)]
+#[error("disk fault")]
+pub struct DiskFault;
+
+impl From<Failed> for DiskFault {
+    fn from(_: Failed) -> DiskFault {
+        DiskFault
+    }
+}
+
+/// Two files, and what a crash may leave of them.
+///
+/// A call that failed may have done its work, a part of it or nothing.
 pub trait Disk {
     ghost use Rattle.dk_device.specs.declared.device.FileId.{FileId};
+    ghost use Rattle.dk_device.specs.declared.calls.DiskCall.{DiskCall};
+    ghost use Rattle.dk_device.specs.declared.calls.Handed.{Handed};
+    ghost use Rattle.dk_device.specs.declared.calls.Handed.TheVariants.{Read, Write, Cut, Sync};
+    ghost use Rattle.dk_device.specs.Causes.{HasCause};
+    ghost use Rattle.dk_device.specs.Disk.{other, overlaid, TornWrite, TornCut, Follows, Allows, SameImages, SameFiles, Elapses, with_call, call_at};
 
     /// How many bytes a file has.
     ghost extent: { Self → FileId → ℕ };
 
-    /// The bytes of a file.
+    /// The bytes of a file, where the disk tells them.
+    ghost content: { Self → FileId → Option (List ℕ) };
+
+    /// The number of calls begun so far, up to its end.
+    ghost time: { Self → ℕ };
+
+    /// What a crash at a moment up to now, just before the call of that number, could have left of a file.
+    ghost leaves: { Self → ℕ → FileId → List ℕ → Type 0 };
+
+    /// The calls so far, each with its moment and what it was handed, where the disk tells them.
+    ghost calls: { Self → Option (List DiskCall) };
+
+    /// How often the disk has failed.
+    ghost faults: { Self → ℕ };
+
+    /// Why a call was done or not, where the disk tells that.
+    ghost told: { Self → Handed → Bool → Self → Type 0 };
+
+    /// How many bytes a file has.
     fn len(&self, file: FileId) -> u64
         ensures { result ≡ extent self.now file };
 
     /// Reads the bytes from a place on.
     fn read_at(&mut self, file: FileId, at: u64, out: &mut [u8]) -> Result<(), Failed>
-        requires { at + length out.old ≤ extent self.old file };
+        requires { at + length out.old ≤ extent self.old file }
+        ensures bytes { OnOk result (IfSome (content self.old file) (λ bytes. out.new ≡ take (length out.old) (drop at bytes))) }
+        ensures content { SameFiles (content self.old) (content self.new) }
+        ensures extent { SameFiles (extent self.old) (extent self.new) }
+        ensures images { SameImages (leaves self.old (time self.old)) (leaves self.new (time self.new)) }
+        ensures time { Elapses (time self.old) (time self.new) (leaves self.old) (leaves self.new) }
+        ensures called { OnOk result (calls self.new ≡ with_call (call_at (time self.old) file (Read at (length out.old)) true) (calls self.old)) }
+        ensures told { told self.old (Read at (length out.old)) (is_ok result) self.new }
+        ensures tried { OnErr result ((calls self.new ≡ calls self.old) ⊎ (calls self.new ≡ with_call (call_at (time self.old) file (Read at (length out.old)) false) (calls self.old))) }
+        ensures cause { HasCause (faults self.old) (faults self.new) result };
 
-    /// Writes over what is there, and past the end.
+    /// Writes over what is there, and past the end. Fails where the range would end past 2^62.
     fn write_at(&mut self, file: FileId, at: u64, bytes: &[u8]) -> Result<(), Failed>
-        requires { at ≤ extent self.old file };
+        requires { at ≤ extent self.old file }
+        ensures written { OnOk result (content self.new file ≡ option_map (overlaid at bytes.now) (content self.old file)) }
+        ensures grown { OnOk result (extent self.new file ≡ max (extent self.old file) (at + length bytes.now)) }
+        ensures no_shorter { extent self.old file ≤ extent self.new file }
+        ensures no_longer { extent self.new file ≤ max (extent self.old file) (at + length bytes.now) }
+        ensures too_far { 2 ^ 62 < at + length bytes.now → IsErr result × SameFiles (content self.old) (content self.new) × SameFiles (extent self.old) (extent self.new) × SameImages (leaves self.old (time self.old)) (leaves self.new (time self.new)) }
+        ensures crash { Follows (TornWrite at (length bytes.now)) (leaves self.old (time self.old) file) (leaves self.new (time self.new) file) }
+        ensures torn { OnOk result (Allows (TornWrite at (length bytes.now)) (leaves self.old (time self.old) file) (leaves self.new (time self.new) file)) }
+        ensures not_done { (c : List ℕ) → leaves self.old (time self.old) file c → leaves self.new (time self.new) file c }
+        ensures other_content { content self.new (other file) ≡ content self.old (other file) }
+        ensures other_extent { extent self.new (other file) ≡ extent self.old (other file) }
+        ensures other_images { (c : List ℕ) → leaves self.new (time self.new) (other file) c ↔ leaves self.old (time self.old) (other file) c }
+        ensures time { Elapses (time self.old) (time self.new) (leaves self.old) (leaves self.new) }
+        ensures called { OnOk result (calls self.new ≡ with_call (call_at (time self.old) file (Write at bytes.now) true) (calls self.old)) }
+        ensures told { told self.old (Write at bytes.now) (is_ok result) self.new }
+        ensures tried { OnErr result ((calls self.new ≡ with_call (call_at (time self.old) file (Write at bytes.now) false) (calls self.old)) ⊎ ((calls self.new ≡ calls self.old) × SameFiles (content self.old) (content self.new) × SameImages (leaves self.old (time self.old)) (leaves self.new (time self.new)))) }
+        ensures cause { HasCause (faults self.old) (faults self.new) result };
 
     /// Cuts a file to a length.
     fn cut(&mut self, file: FileId, len: u64) -> Result<(), Failed>
-        requires { len ≤ extent self.old file };
+        requires { len ≤ extent self.old file }
+        ensures cut { OnOk result (content self.new file ≡ option_map (take len) (content self.old file)) }
+        ensures shrunk { OnOk result (extent self.new file ≡ len) }
+        ensures no_shorter { len ≤ extent self.new file }
+        ensures no_longer { extent self.new file ≤ extent self.old file }
+        ensures crash { Follows (TornCut len) (leaves self.old (time self.old) file) (leaves self.new (time self.new) file) }
+        ensures torn { OnOk result (Allows (TornCut len) (leaves self.old (time self.old) file) (leaves self.new (time self.new) file)) }
+        ensures not_done { (c : List ℕ) → leaves self.old (time self.old) file c → leaves self.new (time self.new) file c }
+        ensures other_content { content self.new (other file) ≡ content self.old (other file) }
+        ensures other_extent { extent self.new (other file) ≡ extent self.old (other file) }
+        ensures other_images { (c : List ℕ) → leaves self.new (time self.new) (other file) c ↔ leaves self.old (time self.old) (other file) c }
+        ensures time { Elapses (time self.old) (time self.new) (leaves self.old) (leaves self.new) }
+        ensures called { OnOk result (calls self.new ≡ with_call (call_at (time self.old) file (Cut len) true) (calls self.old)) }
+        ensures told { told self.old (Cut len) (is_ok result) self.new }
+        ensures tried { OnErr result ((calls self.new ≡ with_call (call_at (time self.old) file (Cut len) false) (calls self.old)) ⊎ ((calls self.new ≡ calls self.old) × SameFiles (content self.old) (content self.new) × SameImages (leaves self.old (time self.old)) (leaves self.new (time self.new)))) }
+        ensures cause { HasCause (faults self.old) (faults self.new) result };
 
     /// After it, a crash leaves of that file what a read gives.
-    fn sync(&mut self, file: FileId) -> Result<(), Failed>;
+    fn sync(&mut self, file: FileId) -> Result<(), Failed>
+        ensures durable { OnOk result ((c : List ℕ) → leaves self.new (time self.new) file c → content self.new file ≡ Some c) }
+        ensures content { SameFiles (content self.old) (content self.new) }
+        ensures extent { SameFiles (extent self.old) (extent self.new) }
+        ensures crash { (c : List ℕ) → leaves self.new (time self.new) file c → leaves self.old (time self.old) file c }
+        ensures other_images { (c : List ℕ) → leaves self.new (time self.new) (other file) c ↔ leaves self.old (time self.old) (other file) c }
+        ensures time { Elapses (time self.old) (time self.new) (leaves self.old) (leaves self.new) }
+        ensures called { OnOk result (calls self.new ≡ with_call (call_at (time self.old) file Sync true) (calls self.old)) }
+        ensures told { told self.old Sync (is_ok result) self.new }
+        ensures tried { OnErr result ((calls self.new ≡ with_call (call_at (time self.old) file Sync false) (calls self.old)) ⊎ ((calls self.new ≡ calls self.old) × SameImages (leaves self.old (time self.old)) (leaves self.new (time self.new)))) }
+        ensures cause { HasCause (faults self.old) (faults self.new) result };
 
     /// The number of calls of the four kinds above begun so far, but never more than 2^62.
-    fn moment(&self) -> u64;
+    fn moment(&self) -> u64
+        ensures counted { result ≡ time self.now }
+        ensures bound { result ≤ 2 ^ 62 };
+
+    /// The content as it reads has the told length.
+    ghost content_length: { (d : Self) (f : FileId) → IfSome (content d f) (λ bytes. length bytes ≡ extent d f) };
+
+    /// The content as it reads is one of the images.
+    ghost content_left: { (d : Self) (f : FileId) (bytes : List ℕ) → content d f ≡ Some bytes → leaves d (time d) f bytes };
 }

@@ -1,0 +1,10 @@
+use Rattle.std.proofs.Common.{ap, arith}
+use Rattle.dk_block_man.specs.Used.{Blocks}
+use Rattle.dk_block_man.proofs.Marks.{among_within, clear_of}
+use Rattle.dk_block_man.proofs.block_man.BlockMan.give.Goals as goal
+
+pub index_mut-requires : goal.index_mut-requires
+index_mut-requires c = let is = ap (λ (b : Blocks). b.used) c.self.view_is in let lt = among_within c.self.inside.flags.items _ c.args.block is c.requires in omega (arith, lt)
+
+pub returns-clause-given : goal.returns-clause-given
+returns-clause-given c = let is = ap (λ (b : Blocks). b.used) c.self.view_is in clear_of c.self.inside.flags.items _ c.args.block is c.requires

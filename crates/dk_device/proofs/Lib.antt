@@ -1,0 +1,5 @@
+mod Chosen
+mod OneMore
+mod Outcome
+mod Overlaid
+mod Step

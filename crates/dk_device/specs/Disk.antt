@@ -1,0 +1,68 @@
+-- What the calls of a disk do to its two files, and what a crash may leave of each.
+use Rattle.std.specs.Prelude.{◌≡◌, ◌↔◌, ℕ, ◌+◌, ◌^◌, ◌≤◌, min, max, Bool, List, [], ◌∷◌, ◌++◌, length, take, drop, Option}
+use Rattle.std.proofs.Common.{option_map}
+use Rattle.dk_device.specs.declared.device.FileId.{FileId}
+use Rattle.dk_device.specs.declared.device.FileId.TheVariants.{Main, Wal}
+use Rattle.dk_device.specs.declared.calls.DiskCall.{DiskCall}
+use Rattle.dk_device.specs.declared.calls.Handed.{Handed}
+
+-- what stands for a file, of two
+abbrev pub of_file : {T : Type 0} → FileId → T → T → T
+of_file Main main wal = main
+of_file Wal main wal = wal
+
+-- the file that a call for this one leaves alone
+abbrev pub other : FileId → FileId
+other Main = Wal
+other Wal = Main
+
+-- the bytes with these over those at a place, and past the end
+abbrev pub overlaid : ℕ → List ℕ → List ℕ → List ℕ
+overlaid at bytes old = take at old ++ bytes ++ drop (at + length bytes) old
+
+-- What a crash may leave after a write of n bytes, where it might have left `old` before:
+-- any bytes in the range and past the old end, the same elsewhere, and a length up to the range's end.
+pub record TornWrite (at n : ℕ) (old new : List ℕ) : Type 0 where
+  pub before : take (min at (length old)) new ≡ take at old
+  pub after : drop (at + n) new ≡ drop (at + n) old
+  pub no_shorter : length old ≤ length new
+  pub no_longer : length new ≤ max (length old) (at + n)
+
+-- What a crash may leave after a cut: it happened or it didn't, and any bytes stand behind the new end.
+pub record TornCut (n : ℕ) (old new : List ℕ) : Type 0 where
+  pub before : take n new ≡ take n old
+  pub no_shorter : min n (length old) ≤ length new
+  pub no_longer : length new ≤ length old
+
+-- each image after a call is one from before it, after a step
+abbrev pub Follows : (List ℕ → List ℕ → Type 0) → (List ℕ → Type 0) → (List ℕ → Type 0) → Type 0
+Follows step old new = (c : List ℕ) → new c → (d : List ℕ) × old d × step d c
+
+-- and each such step leads to one
+abbrev pub Allows : (List ℕ → List ℕ → Type 0) → (List ℕ → Type 0) → (List ℕ → Type 0) → Type 0
+Allows step old new = (d c : List ℕ) → old d → step d c → new c
+
+-- a crash leaves of each file what it might have left before, and nothing else
+abbrev pub SameImages : (FileId → List ℕ → Type 0) → (FileId → List ℕ → Type 0) → Type 0
+SameImages old new = (f : FileId) (c : List ℕ) → new f c ↔ old f c
+
+-- both files as they were
+abbrev pub SameFiles : {T : Type 0} → (FileId → T) → (FileId → T) → Type 0
+SameFiles old new = (f : FileId) → new f ≡ old f
+
+-- the moment after a call that begins at this one
+abbrev pub next_moment : ℕ → ℕ
+next_moment moment = min (moment + 1) (2 ^ 62)
+
+-- Time goes on by one call, and what a crash at an earlier moment could have left stays what it was.
+pub record Elapses (before now : ℕ) (past since : ℕ → FileId → List ℕ → Type 0) : Type 0 where
+  pub next : now ≡ next_moment before
+  pub same : (k : ℕ) (f : FileId) (c : List ℕ) → k ≤ before → since k f c ↔ past k f c
+
+-- a list of calls, with one more
+abbrev pub with_call : DiskCall → Option (List DiskCall) → Option (List DiskCall)
+with_call call told = option_map (λ calls. calls ++ call ∷ []) told
+
+-- a call of this kind that began at a moment, and whether it was done
+abbrev pub call_at : ℕ → FileId → Handed → Bool → DiskCall
+call_at moment file handed done = record { moment = moment; file = file; handed = handed; done = done }

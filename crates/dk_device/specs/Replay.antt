@@ -1,0 +1,85 @@
+-- What a list of calls makes of a file, and what a crash behind them may leave of it.
+use Rattle.std.specs.Prelude.{◌≡◌, ℕ, ◌+◌, Bool, true, false, List, [], ◌∷◌, ◌++◌, length, take, nat_lt, nat_le, if◌then◌else◌}
+use Rattle.std.specs.List.{filter}
+use Rattle.dk_device.specs.declared.device.FileId.{FileId}
+use Rattle.dk_device.specs.declared.device.FileId.TheVariants.{Main, Wal}
+use Rattle.dk_device.specs.declared.calls.DiskCall.{DiskCall}
+use Rattle.dk_device.specs.declared.calls.Handed.{Handed}
+use Rattle.dk_device.specs.declared.calls.Handed.TheVariants.{Read, Write, Cut, Sync}
+use Rattle.dk_device.specs.Disk.{of_file, overlaid, TornWrite, TornCut, next_moment, call_at}
+
+-- the first where the two files are one, else the second
+abbrev pub if_same {ℓ} : {T : Type ℓ} → FileId → FileId → T → T → T
+if_same Main Main same differs = same
+if_same Main Wal same differs = differs
+if_same Wal Main same differs = differs
+if_same Wal Wal same differs = same
+
+-- what a call that is done makes of its file
+abbrev pub effect : Handed → List ℕ → List ℕ
+effect (Read at len) old = old
+effect (Write at bytes) old = overlaid at bytes old
+effect (Cut len) old = take len old
+effect Sync old = old
+
+-- what a crash may leave of its file, of which it might have left `before` and which reads `now`
+abbrev pub LeftBy : Handed → List ℕ → List ℕ → List ℕ → Type 0
+LeftBy (Read at len) now before after = after ≡ before
+LeftBy (Write at bytes) now before after = TornWrite at (length bytes) before after
+LeftBy (Cut len) now before after = TornCut len before after
+LeftBy Sync now before after = after ≡ now
+
+-- a call that is not done does nothing
+abbrev pub done_by : Bool → Handed → List ℕ → List ℕ
+done_by true handed old = effect handed old
+done_by false handed old = old
+
+abbrev pub LeftIf : Bool → Handed → List ℕ → List ℕ → List ℕ → Type 0
+LeftIf true handed now before after = LeftBy handed now before after
+LeftIf false handed now before after = after ≡ before
+
+-- nor does one for the other file
+abbrev pub made_by : Bool → FileId → FileId → Handed → List ℕ → List ℕ
+made_by done file called_file handed old = if_same file called_file (done_by done handed old) old
+
+abbrev pub Leaves : Bool → FileId → FileId → Handed → List ℕ → List ℕ → List ℕ → Type 0
+Leaves done file called_file handed now before after = if_same file called_file (LeftIf done handed now before after) (after ≡ before)
+
+-- how a file reads behind these calls
+abbrev pub content_after : FileId → List ℕ → List DiskCall → List ℕ
+content_after file now [] = now
+content_after file now (call ∷ calls) = content_after file (made_by call.done file call.file call.handed now) calls
+
+-- what a crash behind these calls may leave of it
+abbrev pub LeftAfter : FileId → List ℕ → List ℕ → List DiskCall → List ℕ → Type 0
+LeftAfter file now image [] c = c ≡ image
+LeftAfter file now image (call ∷ calls) c = (next : List ℕ) × Leaves call.done file call.file call.handed now image next × LeftAfter file (made_by call.done file call.file call.handed now) next calls c
+
+-- two files as they were at first, and the calls since
+pub record History : Type 0 where
+  pub main : List ℕ
+  pub wal : List ℕ
+  pub calls : List DiskCall
+  pub moment : ℕ
+
+abbrev pub start_of : History → FileId → List ℕ
+start_of h file = of_file file h.main h.wal
+
+-- the calls that began before a moment
+abbrev pub calls_before : History → ℕ → List DiskCall
+calls_before h k = if nat_le h.moment k then h.calls else filter (λ call. nat_lt call.moment k) h.calls
+
+abbrev pub content_of : History → FileId → List ℕ
+content_of h file = content_after file (start_of h file) h.calls
+
+-- what a crash at a moment could have left
+abbrev pub left_of : History → ℕ → FileId → List ℕ → Type 0
+left_of h k file c = LeftAfter file (start_of h file) (start_of h file) (calls_before h k) c
+
+-- with one call more
+abbrev pub called : FileId → Handed → Bool → History → History
+called file handed done h = record h { calls = h.calls ++ call_at h.moment file handed done ∷ []; moment = h.moment + 1 }
+
+-- with a call more that left nothing in the list
+abbrev pub unlisted : History → History
+unlisted h = record h { moment = next_moment h.moment }

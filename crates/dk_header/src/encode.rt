@@ -1,0 +1,67 @@
+// The bytes of the headers.
+ghost use Rattle.std.specs.Prelude.{◌≡◌, ◌≤◌, ◌++◌, length, drop};
+ghost use Rattle.std.specs.Int.{w32, w64, to_le_bytes};
+ghost use Rattle.dk_header.specs.Layout.{framed, main_bytes, body_bytes};
+
+use crate::header::{DbHeader, MAGIC};
+use dk_bytes::checksum;
+
+/// The fields behind the main header's checksum.
+fn main_fields(fields: &mut [u8], version: u64)
+    requires { 12 ≤ length fields.old }
+    ensures { fields.new ≡ to_le_bytes w32 MAGIC ++ (to_le_bytes w64 version ++ drop 8 (drop 4 fields.old)) }
+{
+    let (magic, rest) = fields.split_at_mut(4);
+    let (number, _) = rest.split_at_mut(8);
+    magic.copy_from_slice(&MAGIC.to_le_bytes());
+    number.copy_from_slice(&version.to_le_bytes());
+}
+
+fn frame_main(bytes: &mut [u8], version: u64)
+    requires { 20 ≤ length bytes.old }
+    ensures { bytes.new ≡ framed (to_le_bytes w32 MAGIC ++ (to_le_bytes w64 version ++ drop 8 (drop 4 (drop 8 bytes.old)))) }
+{
+    let (sum, fields) = bytes.split_at_mut(8);
+    main_fields(fields, version);
+    sum.copy_from_slice(&checksum(fields).to_le_bytes());
+}
+
+/// The main header of a version.
+pub fn main_header(version: u64) -> [u8; 4096]
+    ensures { result ≡ main_bytes version }
+{
+    let mut bytes = [0; 4096];
+    frame_main(&mut bytes, version);
+    bytes
+}
+
+/// The fields behind a database header's checksum.
+fn body_fields(fields: &mut [u8], header: &DbHeader)
+    requires { 24 ≤ length fields.old }
+    ensures { fields.new ≡ to_le_bytes w64 header.now.iteration ++ (to_le_bytes w64 header.now.root ++ (to_le_bytes w64 header.now.blocks ++ drop 8 (drop 8 (drop 8 fields.old)))) }
+{
+    let (iteration, rest) = fields.split_at_mut(8);
+    let (root, rest) = rest.split_at_mut(8);
+    let (blocks, _) = rest.split_at_mut(8);
+    iteration.copy_from_slice(&header.iteration.to_le_bytes());
+    root.copy_from_slice(&header.root.to_le_bytes());
+    blocks.copy_from_slice(&header.blocks.to_le_bytes());
+}
+
+fn frame_body(bytes: &mut [u8], header: &DbHeader)
+    requires { 32 ≤ length bytes.old }
+    ensures { bytes.new ≡ framed (to_le_bytes w64 header.now.iteration ++ (to_le_bytes w64 header.now.root ++ (to_le_bytes w64 header.now.blocks ++ drop 8 (drop 8 (drop 8 (drop 8 bytes.old)))))) }
+{
+    let (sum, fields) = bytes.split_at_mut(8);
+    body_fields(fields, header);
+    sum.copy_from_slice(&checksum(fields).to_le_bytes());
+}
+
+/// A database header without its gate.
+pub fn body_of(header: &DbHeader) -> [u8; 4095]
+    ensures { result ≡ body_bytes header.now }
+{
+    let mut bytes = [0; 4095];
+    frame_body(&mut bytes, header);
+    bytes
+}

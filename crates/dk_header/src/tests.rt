@@ -1,0 +1,80 @@
+ghost use Rattle.std.specs.Prelude.{◌<◌};
+
+use crate::{DbHeader, MainFault, body_of, choose, main_header, read_main};
+use dk_types::{Damage, Part};
+use std::process::Abort;
+
+const ZEROS: [u8; 4096] = [0; 4096];
+
+fn open_header(iteration: u64, gate: u8) -> [u8; 4096] {
+    let body = body_of(&DbHeader {
+        iteration,
+        root: 7,
+        blocks: 9,
+    });
+    let mut bytes = [0; 4096];
+    bytes[..4095].copy_from_slice(&body);
+    bytes[4095] = gate;
+    bytes
+}
+
+fn check(rt: &impl Abort, h0: &[u8; 4096], h1: &[u8; 4096], twin: Result<(u8, bool), Damage>) {
+    let found = match choose(h0, h1) {
+        Ok(current) => Ok((current.twin, current.other_open)),
+        Err(damage) => Err(damage),
+    };
+    assert_eq!(rt; found, twin);
+}
+
+#[test]
+fn the_open_twin_with_the_higher_iteration_is_chosen(rt: HostRuntime) {
+    let one = open_header(1, 1);
+    let two = open_header(2, 1);
+    check(&rt, &ZEROS, &ZEROS, Err(Damage::NoGate));
+    check(&rt, &one, &ZEROS, Ok((0, false)));
+    check(&rt, &ZEROS, &two, Ok((1, false)));
+    check(&rt, &one, &two, Ok((1, true)));
+    check(&rt, &two, &one, Ok((0, true)));
+    check(&rt, &two, &open_header(3, 0), Ok((0, false)));
+    check(&rt, &two, &two, Err(Damage::SameIteration { iteration: 2 }));
+    let none = Damage::Malformed {
+        part: Part::Header,
+        at: 8,
+    };
+    check(&rt, &one, &open_header(0, 1), Err(none));
+}
+
+/// Whether a bit of the body, changed, is told as a wrong checksum.
+fn is_told(good: &[u8; 4096], place: usize, bit: u8) -> bool
+    requires place { place < 4095 }
+    requires bit { bit < 8 }
+{
+    let mut bytes = *good;
+    bytes[place] ^= 1 << bit;
+    match choose(&ZEROS, &bytes) {
+        Err(Damage::HeaderSum { twin, .. }) => twin == 1,
+        _ => false,
+    }
+}
+
+#[test]
+fn each_changed_bit_is_told(rt: HostRuntime) {
+    let good = open_header(5, 1);
+    for place in 0..4095 {
+        for bit in 0..8 {
+            assert!(rt; is_told(&good, place, bit));
+        }
+    }
+}
+
+#[test]
+fn the_main_header_is_read(rt: HostRuntime) {
+    let mut bytes = main_header(1001);
+    assert_eq!(rt; read_main(&bytes), Ok(1001));
+    assert_eq!(rt;
+        (bytes[8], bytes[11], bytes[12], bytes[13]),
+        (b'D', b'K', 0xe9, 3)
+    );
+    bytes[100] = 1;
+    assert_eq!(rt; read_main(&bytes), Err(MainFault::NotADatabase));
+}
