@@ -1,0 +1,9 @@
+mod Comings
+mod Lists
+mod Keeps
+mod Takes
+mod Slots
+mod Between
+mod Waits
+mod Gathers
+mod Unloads

@@ -1,0 +1,42 @@
+-- Lists of turns that are held.
+use Rattle.std.proofs.Common.{◌≡◌, ◌≢◌, ◌⊎◌, ℕ, suc, eqb, cond, Bool, true, false, List, [], ◌∷◌, ◌++◌, refl, sym, ap, ◌∙◌, subst, inl, inr, ⊎_elim, arith, eq-eqb, ne_eqb}
+use mathlib.Core.Option as maybe
+use mathlib.Core.Option.{none, some}
+use mathlib.Core.Logic.{dite}
+use native.Mathlib.Decide.{ℕ_discrete}
+use Rattle.std.specs.Prelude.{Option, Some, None}
+use Rattle.dk_turns.specs.Desks.{Desk, Holds, without, home, Among}
+
+-- a choice by an equality of numbers
+pub choice : {A : Type 0} (n m : ℕ) (x y : A) (F : A → Type 0) → (n ≡ m → F x) → (n ≢ m → F y) → F (cond (eqb n m) x y)
+choice n m x y F hit miss = dite (ℕ_discrete n m) (λ e. subst (λ b. F (cond b x y)) (sym (eq-eqb n m e)) (hit e)) (λ ne. subst (λ b. F (cond b x y)) (sym (ne_eqb n m ne)) (miss ne))
+
+pub chosen : {A : Type 0} (n m : ℕ) (x y : A) → n ≡ m → cond (eqb n m) x y ≡ x
+chosen n m x y e = ap (λ b. cond b x y) (eq-eqb n m e)
+
+pub passed_over : {A : Type 0} (n m : ℕ) (x y : A) → n ≢ m → cond (eqb n m) x y ≡ y
+passed_over n m x y ne = ap (λ b. cond b x y) (ne_eqb n m ne)
+
+module _ (P : Type 0) where
+  pub home_here : (t : ℕ) → home {P = P} (suc t) t ≡ none
+  home_here t = chosen (suc t) (suc t) none (some None) refl
+
+  pub home_else : (h t : ℕ) → h ≢ suc t → home {P = P} h t ≡ some None
+  home_else h t ne = passed_over h (suc t) none (some None) ne
+
+  pub holds_without : (t u : ℕ) (p : P) (hs : List (ℕ × P)) → Holds (without t hs) u p → Holds hs u p × (u ≢ t)
+  holds_without t u p [] h = absurd h
+  holds_without t u p (x ∷ xs) h = choice x.0 t (without t xs) (x ∷ without t xs) (λ l. Holds l u p → Holds (x ∷ xs) u p × (u ≢ t))
+      (λ e y. let i = holds_without t u p xs y in (inr i.0, i.1))
+      (λ ne y. ⊎_elim (λ (z : (x.0 ≡ u) × (x.1 ≡ p)). (inl z, λ e. ne (z.0 ∙ e))) (λ (z : Holds (without t xs) u p). let i = holds_without t u p xs z in (inr i.0, i.1)) y)
+      h
+
+  pub without_holds : (t u : ℕ) (p : P) (hs : List (ℕ × P)) → u ≢ t → Holds hs u p → Holds (without t hs) u p
+  without_holds t u p [] apart h = absurd h
+  without_holds t u p (x ∷ xs) apart h = choice x.0 t (without t xs) (x ∷ without t xs) (λ l. Holds l u p)
+      (λ e. ⊎_elim (λ (y : (x.0 ≡ u) × (x.1 ≡ p)). absurd (apart (sym y.0 ∙ e))) (λ (y : Holds xs u p). without_holds t u p xs apart y) h)
+      (λ ne. ⊎_elim (λ (y : (x.0 ≡ u) × (x.1 ≡ p)). inl y) (λ (y : Holds xs u p). inr (without_holds t u p xs apart y)) h)
+
+pub among_append : (ms ns : List ℕ) (n : ℕ) → Among (ms ++ ns) n → Among ms n ⊎ Among ns n
+among_append [] ns n h = inr h
+among_append (m ∷ ms) ns n h = ⊎_elim (λ (e : m ≡ n). inl (inl e)) (λ (y : Among (ms ++ ns) n). ⊎_elim (λ (z : Among ms n). inl (inr z)) (λ (z : Among ns n). inr z) (among_append ms ns n y)) h

@@ -1,0 +1,13 @@
+use Rattle.std.proofs.Common.{◌≡◌, ℕ, List, length, replicate, rules, sym, ap, ◌∙◌, subst, arith}
+use Rattle.std.specs.Prelude.{Option, Some}
+use Rattle.atomic_table.specs.Table.{opening}
+use Rattle.dk_turns.specs.Rule.{Rule, newcomer}
+use Rattle.dk_turns.proofs.Comings.{starts}
+use Rattle.dk_turns.proofs.Slots.{map_some_injective}
+use Rattle.dk_turns.proofs.turns.Turns.new.Goals as goal
+
+pub new-requires : goal.new-requires
+new-requires g c = subst (λ (x : List (Option _)). Rule (opening (replicate 135 0) x (newcomer 0 1))) (sym c.fill.ensures.slots) (starts _ c.args.parts.items (search rules))
+
+pub returns-in-Err-clause-err : goal.returns-in-Err-clause-err
+returns-in-Err-clause-err g c = map_some_injective _ _ (c.empty.ensures.parts ∙ (c.in-Err.ensures.err ∙ c.fill.ensures.slots))

@@ -1,0 +1,64 @@
+// What a session holds.
+ghost use Rattle.std.specs.Prelude.{◌≡◌};
+ghost use Rattle.dk_turns.specs.Steps.{IsIdle};
+
+use crate::shared::Shared;
+use crate::sight::Doing;
+use atomic_table::Seat;
+use std::marker::Model;
+
+pub(crate) type Place<S> = Seat<Option<<S as Shared>::Part>, Doing<<S as Shared>::Part>>;
+
+/// A session's seat at the turns. It has no bytes.
+pub struct Pass<S: Shared> {
+    pub(crate) seat: Place<S>,
+}
+
+impl<S: Shared> Model for Pass<S> {
+    ghost use Rattle.dk_turns.specs.Seen.{Seen};
+    ghost use Rattle.dk_turns.specs.Steps.{IsIdle};
+
+    ghost Value = { Seen S.Part };
+
+    ghost view = { λ p. record { turns = p.seat.table_id; sight = p.seat.me.0.sight } };
+
+    ghost invariant = { λ p. IsIdle p.seat.me };
+}
+
+impl<S: Shared> Pass<S> {
+    pub(crate) fn into_seat(self) -> Place<S>
+        ensures { (result.table_id ≡ self.turns) × IsIdle result.me × (result.me.0.sight ≡ self.sight) }
+    {
+        let Pass { seat } = self;
+        seat
+    }
+}
+
+/// A turn that is held, with its part.
+pub struct Held<S: Shared> {
+    pub(crate) turn: u32,
+    pub(crate) part: S::Part,
+}
+
+impl<S: Shared> Model for Held<S> {
+    ghost use Rattle.dk_turns.specs.Seen.{Shown};
+
+    ghost Value = { Shown S.Part };
+
+    ghost view = { λ h. record { turn = h.turn; part = h.part } };
+}
+
+impl<S: Shared> Held<S> {
+    /// The turn's number.
+    pub fn turn(&self) -> u32
+        ensures { result ≡ self.now.turn }
+    {
+        self.turn
+    }
+
+    pub fn part(&self) -> &S::Part
+        ensures { result.now ≡ self.now.part }
+    {
+        &self.part
+    }
+}
