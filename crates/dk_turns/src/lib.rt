@@ -16,3 +16,6 @@ pub use seats::{Held, Pass};
 pub use shared::Shared;
 pub use sight::{Doing, Sight};
 pub use turns::Turns;
+
+#[cfg(test)]
+mod tests;

@@ -34,6 +34,13 @@ impl<S: Shared> Pass<S> {
     }
 }
 
+// So that a closure can hold one. Turns whose pass was dropped can't be closed.
+impl<S: Shared> Drop for Pass<S> {
+    fn drop(self) {
+        let Self { seat: _ } = self;
+    }
+}
+
 /// A turn that is held, with its part.
 pub struct Held<S: Shared> {
     pub(crate) turn: u32,
