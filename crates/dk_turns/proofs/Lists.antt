@@ -1,5 +1,5 @@
 -- Lists of turns that are held.
-use Rattle.std.proofs.Common.{◌≡◌, ◌≢◌, ◌⊎◌, ℕ, suc, eqb, cond, Bool, true, false, List, [], ◌∷◌, ◌++◌, refl, sym, ap, ◌∙◌, subst, inl, inr, ⊎_elim, arith, eq-eqb, ne_eqb}
+use Rattle.std.proofs.Common.{◌≡◌, ◌≢◌, ◌⊎◌, ℕ, suc, eqb, cond, Bool, true, false, List, [], ◌∷◌, ◌++◌, map, refl, sym, ap, ◌∙◌, subst, inl, inr, ⊎_elim, arith, eq-eqb, ne_eqb}
 use mathlib.Core.Option as maybe
 use mathlib.Core.Option.{none, some}
 use mathlib.Core.Logic.{dite}
@@ -37,6 +37,26 @@ module _ (P : Type 0) where
       (λ e. ⊎_elim (λ (y : (x.0 ≡ u) × (x.1 ≡ p)). absurd (apart (sym y.0 ∙ e))) (λ (y : Holds xs u p). without_holds t u p xs apart y) h)
       (λ ne. ⊎_elim (λ (y : (x.0 ≡ u) × (x.1 ≡ p)). inl y) (λ (y : Holds xs u p). inr (without_holds t u p xs apart y)) h)
 
-pub among_append : (ms ns : List ℕ) (n : ℕ) → Among (ms ++ ns) n → Among ms n ⊎ Among ns n
-among_append [] ns n h = inr h
-among_append (m ∷ ms) ns n h = ⊎_elim (λ (e : m ≡ n). inl (inl e)) (λ (y : Among (ms ++ ns) n). ⊎_elim (λ (z : Among ms n). inl (inr z)) (λ (z : Among ns n). inr z) (among_append ms ns n y)) h
+pub among_append : {A : Type 0} (xs ys : List A) (x : A) → Among (xs ++ ys) x → Among xs x ⊎ Among ys x
+among_append [] ys x h = inr h
+among_append (y ∷ xs) ys x h = ⊎_elim (λ (e : y ≡ x). inl (inl e)) (λ (z : Among (xs ++ ys) x). ⊎_elim (λ (w : Among xs x). inl (inr w)) (λ (w : Among ys x). inr w) (among_append xs ys x z)) h
+
+pub among_right : {A : Type 0} (xs ys : List A) (x : A) → Among ys x → Among (xs ++ ys) x
+among_right [] ys x h = h
+among_right (y ∷ xs) ys x h = inr (among_right xs ys x h)
+
+pub among_map : {A B : Type 0} (f : A → B) (xs : List A) (y : B) → Among (map f xs) y → (x : A) × Among xs x × (f x ≡ y)
+among_map f [] y h = absurd h
+among_map f (x ∷ xs) y h = ⊎_elim (λ (e : f x ≡ y). (x, inl refl, e)) (λ (z : Among (map f xs) y). let i = among_map f xs y z in (i.0, inr i.1, i.2)) h
+
+module _ {P : Type 0} where
+  slot_or : List (ℕ × Option P) → Option P → Option P
+  slot_or [] d = d
+  slot_or (x ∷ xs) d = x.1
+
+  pub first_is : (l : List (ℕ × Option P)) (t u : ℕ) (o r : Option P) (xs ys : List (ℕ × Option P)) → l ≡ (t, o) ∷ xs → l ≡ (u, r) ∷ ys → r ≡ o
+  unfolding slot_or
+  first_is l t u o r xs ys e f = ap (λ l. slot_or l o) (sym f ∙ e)
+
+  pub same_value : (o : Option P) (a b : P) → o ≡ Some a → o ≡ Some b → a ≡ b
+  same_value o a b e f = cc

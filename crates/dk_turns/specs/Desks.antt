@@ -1,4 +1,4 @@
--- Turns as the rule sees them, and what a pass holds.
+-- Turns as the rule sees them, and what a pass holds and has noted.
 use Rattle.std.specs.Prelude.{◌≡◌, ◌⊎◌, ℕ, suc, eqb, cond, List, [], ◌∷◌, Option, Some, None}
 use mathlib.Core.Option as maybe
 use mathlib.Core.Option.{none, some}
@@ -29,6 +29,7 @@ module _ {P : Type 0} where
   abbrev pub home : ℕ → ℕ → maybe.Option (Option P)
   home hand t = cond (eqb hand (suc t)) none (some None)
 
-abbrev pub Among : List ℕ → ℕ → Type 0
-Among [] n = ⊥
-Among (m ∷ ms) n = (m ≡ n) ⊎ Among ms n
+-- x is one of these
+abbrev pub Among : {A : Type 0} → List A → A → Type 0
+Among [] x = ⊥
+Among (y ∷ ys) x = (y ≡ x) ⊎ Among ys x

@@ -1,4 +1,5 @@
 pub mod Desks
+pub mod History
 pub mod Rule
-pub mod Seen
 pub mod Steps
+pub mod Seen

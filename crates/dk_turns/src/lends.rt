@@ -10,7 +10,7 @@ use crate::shared::Shared;
 impl<S: Shared> Held<S> {
     /// When the borrow ends, the held turn has what was written.
     pub fn part_mut(&mut self) -> &mut S::Part
-        ensures* writes_back { sem 𝓛 (Lends (the_row S.row S.Part.row S.Note.row) S.Part.row self.entry result (with_part self.old)) }
+        ensures* writes_back { sem 𝓛 (Lends (the_row S.row S.Part.row S.Note.row S.Shared) S.Part.row self.entry result (with_part self.old)) }
         ensures value { result.now ≡ self.old.part }
     {
         &mut self.part

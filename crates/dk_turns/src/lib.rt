@@ -1,6 +1,7 @@
-//! Turns: who holds which part of what threads share.
+//! Turns: who holds which part of what threads share, and one history for all their events.
 #![tactic(auto)]
 
+mod clock;
 mod keeping;
 mod lends;
 mod making;
@@ -14,8 +15,5 @@ mod turns;
 
 pub use seats::{Held, Pass};
 pub use shared::Shared;
-pub use sight::{Doing, Sight};
+pub use sight::{Doing, Ended, Made, Noted, Sight};
 pub use turns::Turns;
-
-#[cfg(test)]
-mod tests;

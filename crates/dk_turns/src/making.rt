@@ -1,10 +1,11 @@
 //! How the turns are made, how passes come to be, and how all end.
-ghost use Rattle.std.specs.Prelude.{◌≡◌, ◌≢◌, ℕ, ◌<◌, ◌≤◌, [], length, map, Some, false, slice_index_or, IfOk, IfErr, vec_len, vec_capacity};
+ghost use Rattle.std.specs.Prelude.{◌≡◌, ◌≢◌, ℕ, ◌<◌, ◌≤◌, List, [], length, map, Some, false, slice_index_or, IfOk, IfErr, vec_len, vec_capacity};
 ghost use Rattle.std.specs.Mem.Slots.{slots_items, slots_filled, slots_len, IsFull};
 ghost use mathlib.Core.Option.{some};
 ghost use lib.ListN.{get_elem?};
-ghost use Rattle.dk_turns.specs.Rule.{Last, newcomer};
-ghost use Rattle.dk_turns.specs.Seen.{AllIdle, IsWhole};
+ghost use Rattle.dk_turns.specs.Desks.{Desk, free_desk};
+ghost use Rattle.dk_turns.specs.Rule.{Last, Wider, newcomer};
+ghost use Rattle.dk_turns.specs.Seen.{AllIdle, History, IsWhole, Joined};
 ghost use Rattle.dk_turns.specs.Steps.{giving};
 
 use crate::keeping::{Spare, empty, fill};
@@ -23,8 +24,9 @@ impl<S: Shared> Turns<S> {
         alloc: Global,
         mut parts: Vec<S::Part>,
     ) -> Result<(Turns<S>, Pass<S>), (OutOfMemory, Vec<S::Part>)>
-        requires { vec_len parts ≡ 67 }
-        ensures ok { IfOk result (λ made. (made.1.turns ≡ made.0) × (made.1.sight ≡ (newcomer 0 1).sight)) }
+        requires parts { vec_len parts ≡ 67 }
+        requires fact { (desks : List (Desk S.Part)) → Wider (map free_desk parts.items) desks → S.holds [] desks }
+        ensures ok { IfOk result (λ made. (made.1.turns ≡ made.0) × (made.1.sight ≡ newcomer 0 1 0)) }
         ensures err { IfErr result (λ refusal. refusal.1.items ≡ parts.items) }
     {
         let Ok(mut slots) = Vec::with_capacity(alloc, TURNS) else {
@@ -49,7 +51,7 @@ impl<S: Shared> Turns<S> {
         requires pass { pass.old.turns ≡ self.now }
         requires giver { pass.old.sight.given ≢ 0 }
         ensures pass { (pass.new.turns ≡ pass.old.turns) × (pass.new.sight ≡ giving pass.old.sight) }
-        ensures new { (result.turns ≡ self.now) × (result.sight ≡ (newcomer pass.old.sight.given 0).sight) }
+        ensures new { (result.turns ≡ self.now) × (result.sight ≡ newcomer pass.old.sight.given 0 pass.old.sight.seen) }
     {
         let seat = self.table.shared.split_seat::<Number>(&mut pass.seat);
         Pass { seat }
@@ -59,7 +61,7 @@ impl<S: Shared> Turns<S> {
     pub fn close(self, passes: Vec<Pass<S>>) -> Vec<S::Part>
         requires idle { AllIdle self passes.items }
         requires whole { IsWhole passes.items }
-        ensures { length result.items ≡ 67 }
+        ensures { History S.holds passes.items result.items }
     {
         let Turns { table, spare } = self;
         let keeper = gather(&table.shared, passes);
@@ -76,7 +78,8 @@ fn gather<S: Shared>(board: &Board<S>, mut passes: Vec<Pass<S>>) -> Place<S>
     requires board { board.now.table_id.words ≡ 135 }
     requires idle { AllIdle board.now.table_id passes.items }
     requires whole { IsWhole passes.items }
-    ensures { (result.table_id ≡ board.now.table_id) × Last result.me.0 }
+    ensures last { (result.table_id ≡ board.now.table_id) × Last result.me.0 }
+    ensures joined { Joined passes.items result.me.0 }
 {
     let Some(first) = passes.pop() else {
         unreachable!()

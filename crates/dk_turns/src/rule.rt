@@ -8,10 +8,11 @@ pub struct Discipline<S> {
     marker: PhantomData<S>,
 }
 
-impl<S: Shared> TableRule<Option<S::Part>, Doing<S::Part>, ()> for Discipline<S> {
+impl<S: Shared> TableRule<Option<S::Part>, Doing<S::Part, S::Note>, ()> for Discipline<S> {
+    ghost use Rattle.std.specs.Prelude.{false};
     ghost use Rattle.dk_turns.specs.Rule.{Rule, newcomer};
 
-    ghost holds = { λ _. Rule };
+    ghost holds = { λ _. Rule S.holds S.lasts };
 
-    ghost first = { λ _. newcomer 0 1 };
+    ghost first = { λ _. record { spent = false; hand = 0; sight = newcomer 0 1 0 } };
 }

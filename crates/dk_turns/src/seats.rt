@@ -7,7 +7,10 @@ use crate::sight::Doing;
 use atomic_table::Seat;
 use std::marker::Model;
 
-pub(crate) type Place<S> = Seat<Option<<S as Shared>::Part>, Doing<<S as Shared>::Part>>;
+pub(crate) type Place<S> = Seat<
+    Option<<S as Shared>::Part>,
+    Doing<<S as Shared>::Part, <S as Shared>::Note>,
+>;
 
 /// A session's seat at the turns. It has no bytes.
 pub struct Pass<S: Shared> {
@@ -18,7 +21,7 @@ impl<S: Shared> Model for Pass<S> {
     ghost use Rattle.dk_turns.specs.Seen.{Seen};
     ghost use Rattle.dk_turns.specs.Steps.{IsIdle};
 
-    ghost Value = { Seen S.Part };
+    ghost Value = { Seen S.Part S.Note };
 
     ghost view = { λ p. record { turns = p.seat.table_id; sight = p.seat.me.0.sight } };
 

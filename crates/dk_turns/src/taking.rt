@@ -1,8 +1,9 @@
 //! How a turn is taken and released.
-ghost use Rattle.std.specs.Prelude.{◌≡◌, ℕ, ◌<◌, List, ◌++◌, MatchOption, IfSome, IfNone};
+ghost use Rattle.std.specs.Prelude.{◌≡◌, ℕ, ◌<◌, [], ◌∷◌, MatchOption, IfSome, IfNone};
 ghost use Rattle.dk_turns.specs.Desks.{Holds};
-ghost use Rattle.dk_turns.specs.Seen.{Waited};
-ghost use Rattle.dk_turns.specs.Steps.{IsIdle, taking, refusing, releasing};
+ghost use Rattle.dk_turns.specs.History.{PutsBack};
+ghost use Rattle.dk_turns.specs.Seen.{Waited, MayPutBack};
+ghost use Rattle.dk_turns.specs.Steps.{IsIdle, Lasting, taking, refusing, releasing};
 
 use crate::plays::{Fetch, Give, Settle, Stay, Try};
 use crate::seats::{Held, Pass, Place};
@@ -16,10 +17,10 @@ fn claim<S: Shared>(board: &Board<S>, seat: &mut Place<S>, turn: u32) -> Option<
     requires seat { (seat.old.table_id ≡ board.now.table_id) × IsIdle seat.old.me }
     requires turn { turn < 67 }
     ensures seat { (seat.new.table_id ≡ seat.old.table_id) × IsIdle seat.new.me }
-    ensures sight { MatchOption result (seat.new.me.0.sight ≡ refusing turn seat.old.me.0.sight) (λ part. seat.new.me.0.sight ≡ taking turn part seat.old.me.0.sight) }
+    ensures sight { MatchOption result (seat.new.me.0.sight ≡ refusing (turn ∷ []) seat.old.me.0.sight) (λ part. (seat.new.me.0.sight ≡ taking turn part seat.old.me.0.sight) × Lasting S.lasts seat.old.me.0.sight turn part) }
 {
     let word = turn as usize + 1;
-    if board.compare_exchange::<Try>(seat, word, FREE, TAKEN) != FREE {
+    if board.compare_exchange::<Try<S>>(seat, word, FREE, TAKEN) != FREE {
         return None;
     }
     let slot = board.exchange(seat, turn as usize, None);
@@ -31,9 +32,9 @@ fn claim<S: Shared>(board: &Board<S>, seat: &mut Place<S>, turn: u32) -> Option<
 fn put_back<S: Shared>(board: &Board<S>, seat: &mut Place<S>, turn: u32, part: S::Part)
     requires board { (board.now.table_id.words ≡ 135) × (board.now.table_id.slots ≡ 67) }
     requires seat { (seat.old.table_id ≡ board.now.table_id) × IsIdle seat.old.me }
-    requires turn { (turn < 67) × ((shown : S.Part) × Holds seat.old.me.0.sight.held turn shown) }
+    requires turn { (turn < 67) × ((shown : S.Part) × Holds seat.old.me.0.sight.held turn shown × PutsBack S.holds S.lasts seat.old.me.0.sight turn shown part) }
     ensures seat { (seat.new.table_id ≡ seat.old.table_id) × IsIdle seat.new.me }
-    ensures sight { seat.new.me.0.sight ≡ releasing turn seat.old.me.0.sight }
+    ensures sight { seat.new.me.0.sight ≡ releasing turn part seat.old.me.0.sight }
 {
     let word = turn as usize + 1;
     board.load::<Fetch>(seat, word);
@@ -70,8 +71,9 @@ impl<S: Shared> Turns<S> {
         requires pass { pass.old.turns ≡ self.now }
         requires turn { turn < 67 }
         ensures pass { pass.new.turns ≡ pass.old.turns }
-        ensures none { IfNone result (pass.new.sight ≡ refusing turn pass.old.sight) }
+        ensures none { IfNone result (pass.new.sight ≡ refusing (turn ∷ []) pass.old.sight) }
         ensures some { IfSome result (λ held. (held.turn ≡ turn) × (pass.new.sight ≡ taking turn held.part pass.old.sight)) }
+        ensures lasting { IfSome result (λ held. Lasting S.lasts pass.old.sight turn held.part) }
     {
         match claim(&self.table.shared, &mut pass.seat, turn) {
             Some(part) => Some(Held { turn, part }),
@@ -86,6 +88,7 @@ impl<S: Shared> Turns<S> {
         ensures pass { pass.new.turns ≡ pass.old.turns }
         ensures turn { result.turn ≡ turn }
         ensures sight { Waited turn result.part pass.old.sight pass.new.sight }
+        ensures lasting { Lasting S.lasts pass.old.sight turn result.part }
     {
         if let Some(held) = self.try_take(pass, turn) {
             return held;
@@ -100,6 +103,7 @@ impl<S: Shared> Turns<S> {
         ensures pass { pass.new.turns ≡ pass.old.turns }
         ensures turn { result.turn ≡ turn }
         ensures sight { Waited turn result.part pass.old.sight pass.new.sight }
+        ensures lasting { Lasting S.lasts pass.old.sight turn result.part }
     {
         enlist(&self.table.shared, &mut pass.seat, turn);
         for _ in rt.forever() {
@@ -115,9 +119,9 @@ impl<S: Shared> Turns<S> {
     /// Puts the part back, and frees the turn.
     pub fn release(&self, pass: &mut Pass<S>, held: Held<S>)
         requires pass { pass.old.turns ≡ self.now }
-        requires held { (held.turn < 67) × ((shown : S.Part) × Holds pass.old.sight.held held.turn shown) }
+        requires held { MayPutBack S.holds S.lasts pass.old.sight held }
         ensures pass { pass.new.turns ≡ pass.old.turns }
-        ensures sight { pass.new.sight ≡ releasing held.turn pass.old.sight }
+        ensures sight { pass.new.sight ≡ releasing held.turn held.part pass.old.sight }
     {
         let Held { turn, part } = held;
         put_back(&self.table.shared, &mut pass.seat, turn, part);

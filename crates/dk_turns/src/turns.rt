@@ -11,8 +11,10 @@ use std::sync::Mutex;
 /// How many turns there are.
 pub(crate) const TURNS: usize = 67;
 
-// Word 0 is the clock. Word 1 + t says whether the turn t is taken, and word 68 + t how many wait for it.
+// Word 0 is the clock, which counts the events. Word 1 + t says whether the turn t is taken, and word 68 + t how many wait for it.
 pub(crate) const WORDS: usize = 135;
+
+pub(crate) const CLOCK: usize = 0;
 
 pub(crate) const WAITERS: usize = 68;
 
@@ -22,14 +24,14 @@ pub(crate) const TAKEN: u64 = 1;
 
 pub(crate) type Board<S> = atomic_table::Shared<
     Option<<S as Shared>::Part>,
-    Doing<<S as Shared>::Part>,
+    Doing<<S as Shared>::Part, <S as Shared>::Note>,
     (),
     Discipline<S>,
 >;
 
 /// Turns that threads take, each with its part.
 pub struct Turns<S: Shared> {
-    pub(crate) table: Table<Option<S::Part>, Doing<S::Part>, (), Discipline<S>, Global>,
+    pub(crate) table: Table<Option<S::Part>, Doing<S::Part, S::Note>, (), Discipline<S>, Global>,
     pub(crate) spare: Mutex<Spare<S::Part>>,
 }
 

@@ -1,6 +1,6 @@
-use Rattle.std.proofs.Common.{◌≡◌, ◌<◌, ◌++◌, refl, sym, ap, ◌∙◌, subst, arith}
+use Rattle.std.proofs.Common.{◌≡◌, ◌<◌, ◌++◌, length, refl, sym, ap, ◌∙◌, subst, arith}
 use Rattle.std.specs.Option.{option_to_list}
-use Rattle.dk_turns.proofs.Gathers.{Gathering, gather_first, gather_more, next_is}
+use Rattle.dk_turns.proofs.Gathers.{Gathering, gather_first, gather_more, gather_end, no_items, next_is}
 use Rattle.dk_turns.proofs.Comings.{joins}
 use Rattle.dk_turns.proofs.making.gather.Goals as goal
 
@@ -22,7 +22,7 @@ join_seat-requires g c =
       seat.0 ∙ next.0,
       seat.1.0,
       omega (arith, c.requires.board),
-      joins _ c.loop-pass.keeper.id c.loop-pass.keeper.me.0 c.into_seat.result.id c.into_seat.result.me.0 i.idle.1 seat.1.1 (ap (λ v. v.held) seat.2 ∙ next.1),
+      joins _ _ g.S.Shared.holds g.S.Shared.lasts c.loop-pass.keeper.id c.loop-pass.keeper.me.0 c.into_seat.result.id c.into_seat.result.me.0 i.idle.1 seat.1.1 (ap (λ v. v.held) seat.2 ∙ next.1),
     )
 
 pub loop-pass-preserved : goal.loop-pass-preserved
@@ -32,3 +32,13 @@ loop-pass-preserved g c =
     let joined = c.join_seat.ensures in
     gather_more c.args.board.now.table_id c.loop-pass.keeper.table_id c.join_seat.new.seat.table_id c.pop-in-loop-pass.new.self.items c.loop-pass.passes.items c.args.passes.items c.in-Some-pop.pass
         c.loop-pass.keeper.me c.join_seat.new.seat.me c.into_seat.result.me.0 items c.loop-pass.invariant (sym seat.2) joined.0 joined.2
+
+pub returns-clause-last : goal.returns-clause-last
+returns-clause-last g c =
+    let i = c.loop-pass.invariant in
+    let none = rw c.in_default-pop.is at c.pop-in-loop-pass.ensures.cases in
+    let empty : length c.loop-pass.passes.items ≡ 0 = omega (arith, none.0, c.loop-pass.passes.ok.0) in (
+      i.table_is,
+      gather_end c.args.board.now.table_id c.loop-pass.keeper.table_id c.args.passes.items c.loop-pass.keeper.me c.requires.whole
+          (subst (λ l. Gathering c.args.board.now.table_id c.args.passes.items l c.loop-pass.keeper.table_id c.loop-pass.keeper.me) (no_items c.loop-pass.passes.items empty) i),
+    )

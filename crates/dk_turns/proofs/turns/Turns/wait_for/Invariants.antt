@@ -1,5 +1,5 @@
 use Rattle.std.proofs.Common.{◌≡◌}
-use Rattle.dk_turns.specs.Seen.{Refused}
+use Rattle.dk_turns.proofs.Waits.{Refused}
 use Rattle.dk_turns.proofs.turns.Turns.wait_for.Given as goal
 
 abbrev pub invariant-loop : goal.invariant-loop
