@@ -30,34 +30,34 @@ module _ {P N : Type 0} where
   -- a slot was taken out
   pub taken_out : (m m' : Mine P N) (t : ℕ) (o : Option P) (v : Sight P N) → IsIdle m → m' ≡ (with_hand (suc t) v m.0, (t, o) ∷ m.1) → Out m' t o v
   taken_out m m' t o v idle e = record {
-      live = ap (λ (x : Mine P N). x.0.spent) e ∙ idle.1;
-      hand = ap (λ (x : Mine P N). x.0.hand) e;
-      sight = ap (λ (x : Mine P N). x.0.sight) e;
-      out = ap (λ (x : Mine P N). x.1) e ∙ ap (λ l. (t, o) ∷ l) idle.0;
-    }
+    live = ap (λ (x : Mine P N). x.0.spent) e ∙ idle.1;
+    hand = ap (λ (x : Mine P N). x.0.hand) e;
+    sight = ap (λ (x : Mine P N). x.0.sight) e;
+    out = ap (λ (x : Mine P N). x.1) e ∙ ap (λ l. (t, o) ∷ l) idle.0;
+  }
 
   -- another value went into it
   pub swapped : (m m' : Mine P N) (t : ℕ) (o o' : Option P) (v : Sight P N) → Out m t o v → m' ≡ (m.0, (t, o') ∷ rest m.1) → Out m' t o' v
   swapped m m' t o o' v h e = record {
-      live = ap (λ (x : Mine P N). x.0.spent) e ∙ h.live;
-      hand = ap (λ (x : Mine P N). x.0.hand) e ∙ h.hand;
-      sight = ap (λ (x : Mine P N). x.0.sight) e ∙ h.sight;
-      out = ap (λ (x : Mine P N). x.1) e ∙ ap (λ l. (t, o') ∷ rest l) h.out;
-    }
+    live = ap (λ (x : Mine P N). x.0.spent) e ∙ h.live;
+    hand = ap (λ (x : Mine P N). x.0.hand) e ∙ h.hand;
+    sight = ap (λ (x : Mine P N). x.0.sight) e ∙ h.sight;
+    out = ap (λ (x : Mine P N). x.1) e ∙ ap (λ l. (t, o') ∷ rest l) h.out;
+  }
 
   -- it went home
   pub home_again : (m m' : Mine P N) (t : ℕ) (o : Option P) (v w : Sight P N) → Out m t o v → m' ≡ (with_hand 0 w m.0, rest m.1) → IsIdle m' × (m'.0.sight ≡ w)
   home_again m m' t o v w h e = (
-      (ap (λ (x : Mine P N). x.1) e ∙ ap rest h.out, ap (λ (x : Mine P N). x.0.spent) e ∙ h.live, ap (λ (x : Mine P N). x.0.hand) e),
-      ap (λ (x : Mine P N). x.0.sight) e,
-    )
+    (ap (λ (x : Mine P N). x.1) e ∙ ap rest h.out, ap (λ (x : Mine P N). x.0.spent) e ∙ h.live, ap (λ (x : Mine P N). x.0.hand) e),
+    ap (λ (x : Mine P N). x.0.sight) e,
+  )
 
   -- nothing was taken
   pub missed : (m m' : Mine P N) (w : Sight P N) → IsIdle m → m' ≡ (with_hand m.0.hand w m.0, m.1) → IsIdle m' × (m'.0.sight ≡ w)
   missed m m' w idle e = (
-      (ap (λ (x : Mine P N). x.1) e ∙ idle.0, ap (λ (x : Mine P N). x.0.spent) e ∙ idle.1, ap (λ (x : Mine P N). x.0.hand) e ∙ idle.2),
-      ap (λ (x : Mine P N). x.0.sight) e,
-    )
+    (ap (λ (x : Mine P N). x.1) e ∙ idle.0, ap (λ (x : Mine P N). x.0.spent) e ∙ idle.1, ap (λ (x : Mine P N). x.0.hand) e ∙ idle.2),
+    ap (λ (x : Mine P N). x.0.sight) e,
+  )
 
   pub holds_in : (v w : Sight P N) (t : ℕ) (p : P) → v ≡ w → Holds w.held t p → Holds v.held t p
   holds_in v w t p e h = subst (λ (x : Sight P N). Holds x.held t p) (sym e) h

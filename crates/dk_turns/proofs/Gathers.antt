@@ -11,7 +11,7 @@ use Rattle.dk_turns.specs.Seen.{Seen, given_by, HasNumber, AllIdle, IsWhole, IsI
 use Rattle.dk_turns.specs.Steps.{Mine, IsIdle, joined}
 use Rattle.dk_turns.proofs.Lists.{among_append, among_right}
 
-among_left : {A : Type 0} (xs ys : List A) (x : A) → Among xs x → Among (xs ++ ys) x
+pub among_left : {A : Type 0} (xs ys : List A) (x : A) → Among xs x → Among (xs ++ ys) x
 among_left [] ys x h = absurd h
 among_left (y ∷ xs) ys x h = ⊎_elim (λ (e : y ≡ x). inl e) (λ (z : Among xs x). inr (among_left xs ys x z)) h
 
@@ -20,7 +20,7 @@ no_items [] e = refl
 no_items (x ∷ xs) e = absurd (omega arith)
 
 module _ {P N : Type 0} where
-  given_by-snoc : (ps : List (Seen P N)) (p : Seen P N) → given_by (ps ++ p ∷ []) ≡ p.sight.given + given_by ps
+  pub given_by-snoc : (ps : List (Seen P N)) (p : Seen P N) → given_by (ps ++ p ∷ []) ≡ p.sight.given + given_by ps
   given_by-snoc [] p = refl
   given_by-snoc (q ∷ ps) p = let h = given_by-snoc ps p in omega (arith, h)
 
@@ -70,28 +70,28 @@ module _ {P N : Type 0} where
         covered = λ q h. ⊎_elim
             (λ (x : IsIn q m.0). inl (becomes q (in_more q m.0 w x)))
             (λ (x : Among (left ++ p ∷ []) q). ⊎_elim
-                (λ (y : Among left q). inr y)
-                (λ (y : (p ≡ q) ⊎ ⊥). ⊎_elim
-                    (λ (z : p ≡ q). inl (becomes q (inr (record { number = w.sight.number; events = w.sight.events }, inl refl, ap (λ (u : Sight P N). u.number) (sym is) ∙ ap (λ (u : Seen P N). u.sight.number) z, ap (λ (u : Sight P N). u.events) (sym is) ∙ ap (λ (u : Seen P N). u.sight.events) z))))
-                    (λ (z : ⊥). absurd z)
-                    y)
-                (among_append left (p ∷ []) q x))
+            (λ (y : Among left q). inr y)
+            (λ (y : (p ≡ q) ⊎ ⊥). ⊎_elim
+            (λ (z : p ≡ q). inl (becomes q (inr (record { number = w.sight.number; events = w.sight.events }, inl refl, ap (λ (u : Sight P N). u.number) (sym is) ∙ ap (λ (u : Seen P N). u.sight.number) z, ap (λ (u : Sight P N). u.events) (sym is) ∙ ap (λ (u : Seen P N). u.sight.events) z))))
+            (λ (z : ⊥). absurd z)
+            y)
+            (among_append left (p ∷ []) q x))
             (g.covered q h);
       }
 
   pub gather_end : (turns table : TableId) (all : List (Seen P N)) (m : Mine P N) → IsWhole all → Gathering turns all [] table m → Last m.0
   gather_end turns table all m whole g = record {
-      live = g.idle.1;
-      idle = g.held;
-      gives = λ e. let f = g.given in let h = whole.0 in omega (arith, e, f, h);
-      all = λ n h. let q = whole.1 n (let f = g.given in omega (arith, f, h)) in ⊎_elim
-          (λ (x : IsIn q.0 m.0). ⊎_elim
-              (λ (y : (q.0.sight.number ≡ m.0.sight.number) × (q.0.sight.events ≡ m.0.sight.events)). inl (sym q.2 ∙ y.0))
-              (λ (y : (e : Ended N) × Among m.0.sight.ended e × (e.number ≡ q.0.sight.number) × (e.events ≡ q.0.sight.events)). inr (y.0, y.1, y.2 ∙ q.2))
-              x)
-          (λ (x : ⊥). absurd x)
-          (g.covered q.0 q.1);
-    }
+    live = g.idle.1;
+    idle = g.held;
+    gives = λ e. let f = g.given in let h = whole.0 in omega (arith, e, f, h);
+    all = λ n h. let q = whole.1 n (let f = g.given in omega (arith, f, h)) in ⊎_elim
+        (λ (x : IsIn q.0 m.0). ⊎_elim
+        (λ (y : (q.0.sight.number ≡ m.0.sight.number) × (q.0.sight.events ≡ m.0.sight.events)). inl (sym q.2 ∙ y.0))
+        (λ (y : (e : Ended N) × Among m.0.sight.ended e × (e.number ≡ q.0.sight.number) × (e.events ≡ q.0.sight.events)). inr (y.0, y.1, y.2 ∙ q.2))
+        x)
+        (λ (x : ⊥). absurd x)
+        (g.covered q.0 q.1);
+  }
 
   pub gather_joined : (turns table : TableId) (all : List (Seen P N)) (m : Mine P N) → Gathering turns all [] table m → Joined all m.0
   gather_joined turns table all m g = (

@@ -52,14 +52,14 @@ module _ {P : Type 0} where
   -- what is wider once a turn was taken was so before
   pub wider_taken : (l wider : List (Desk P)) (t n : ℕ) (d : Desk P) → get_elem? l t ≡ some d → d.holder ≡ None → Wider (set l t (desk_of n d.part)) wider → Wider l wider
   wider_taken l wider t n d at free h = record {
-      long = h.long ∙ length-set l t (desk_of n d.part);
-      same = λ u x e. dite (ℕ_discrete u t)
-          (λ is.
-              let was : d ≡ x = some-injective d x (sym at ∙ ap (get_elem? l) (sym is) ∙ e) in
-              let g = h.same t (desk_of n d.part) (set_here l t (desk_of n d.part) (within l t d at)) in
-              (g.0, ap (get_elem? wider) is ∙ g.1, g.2 ∙ ap (λ (y : Desk P). y.part) was, λ m held. absurd (none_is_some m (sym free ∙ ap (λ (y : Desk P). y.holder) was ∙ held))))
-          (λ ne. h.same u x (set_else l t u (desk_of n d.part) ne ∙ e));
-    }
+    long = h.long ∙ length-set l t (desk_of n d.part);
+    same = λ u x e. dite (ℕ_discrete u t)
+        (λ is.
+        let was : d ≡ x = some-injective d x (sym at ∙ ap (get_elem? l) (sym is) ∙ e) in
+        let g = h.same t (desk_of n d.part) (set_here l t (desk_of n d.part) (within l t d at)) in
+        (g.0, ap (get_elem? wider) is ∙ g.1, g.2 ∙ ap (λ (y : Desk P). y.part) was, λ m held. absurd (none_is_some m (sym free ∙ ap (λ (y : Desk P). y.holder) was ∙ held))))
+        (λ ne. h.same u x (set_else l t u (desk_of n d.part) ne ∙ e));
+  }
     where
       none_is_some : (m : ℕ) → None ≡ Some m → ⊥
       none_is_some m e = cc
@@ -67,11 +67,11 @@ module _ {P : Type 0} where
   -- the desks before a step under the turn t, and wider ones with what the step changed put back
   pub wider_back : (l wider : List (Desk P)) (t : ℕ) (d d' : Desk P) → get_elem? l t ≡ some d → Wider (set l t d') wider → Wider l (set wider t d)
   wider_back l wider t d d' at h = record {
-      long = length-set wider t d ∙ h.long ∙ length-set l t d';
-      same = λ u x e. dite (ℕ_discrete u t)
-          (λ is.
-              let was : d ≡ x = some-injective d x (sym at ∙ ap (get_elem? l) (sym is) ∙ e) in
-              let there = h.same t d' (set_here l t d' (within l t d at)) in
-              (d, ap (get_elem? (set wider t d)) is ∙ set_here wider t d (within wider t there.0 there.1), ap (λ (y : Desk P). y.part) was, λ m _. was))
-          (λ ne. let g = h.same u x (set_else l t u d' ne ∙ e) in (g.0, set_else wider t u d ne ∙ g.1, g.2, g.3));
-    }
+    long = length-set wider t d ∙ h.long ∙ length-set l t d';
+    same = λ u x e. dite (ℕ_discrete u t)
+        (λ is.
+        let was : d ≡ x = some-injective d x (sym at ∙ ap (get_elem? l) (sym is) ∙ e) in
+        let there = h.same t d' (set_here l t d' (within l t d at)) in
+        (d, ap (get_elem? (set wider t d)) is ∙ set_here wider t d (within wider t there.0 there.1), ap (λ (y : Desk P). y.part) was, λ m _. was))
+        (λ ne. let g = h.same u x (set_else l t u d' ne ∙ e) in (g.0, set_else wider t u d ne ∙ g.1, g.2, g.3));
+  }

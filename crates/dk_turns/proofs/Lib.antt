@@ -2,6 +2,7 @@ mod Between
 mod Clocks
 mod Closings
 mod Comings
+mod Counters
 mod Gathers
 mod Histories
 mod Keeps

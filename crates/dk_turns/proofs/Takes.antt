@@ -120,13 +120,13 @@ module _ (P N : Type 0) (holds : List (Made N) → List (Desk P) → Type 0) (la
                 (λ u q ne h. ⊎_elim (λ (z : (t ≡ u) × (p ≡ q)). absurd (ne (sym z.0))) (λ (z : Holds m.0.sight.held u q). z) h)
                 (λ u ne. home_else P (suc t) u (λ e. ne (omega arith)) ∙ sym (home_else P m.0.hand u (λ e. omega (arith, hand))))
                 (λ q h. ⊎_elim
-                    (λ (z : (t ≡ t) × (p ≡ q)). (ap (desk_of n) z.1, set_here s.homes t none (in_homes s r t small) ∙ ap some (sym (home_here P t))))
-                    (λ (z : Holds m.0.sight.held t q). let g = old.holding t q z in
-                      absurd (none_is_some (sym f.0 ∙ ap (λ (x : Desk P). x.holder) (some-injective d.0 (desk_of n q) (sym d.1 ∙ g.0)))))
-                    h)
+                (λ (z : (t ≡ t) × (p ≡ q)). (ap (desk_of n) z.1, set_here s.homes t none (in_homes s r t small) ∙ ap some (sym (home_here P t))))
+                (λ (z : Holds m.0.sight.held t q). let g = old.holding t q z in
+                absurd (none_is_some (sym f.0 ∙ ap (λ (x : Desk P). x.holder) (some-injective d.0 (desk_of n q) (sym d.1 ∙ g.0)))))
+                h)
                 (λ k after x _ h. h)
                 (quiet s r id m.0 w (set r.desks t (desk_of n p)) (get_or (set s.words (t + 1) 1) 0 0) at live (clock_stays s r (t + 1) 1 (omega arith)) refl refl refl
-                    (same_parts r.desks t d.0 (desk_of n p) d.1 refl) (λ wider h. r.kept wider (wider_taken r.desks wider t n d.0 d.1 f.0 h)))
+                (same_parts r.desks t d.0 (desk_of n p) d.1 refl) (λ wider h. r.kept wider (wider_taken r.desks wider t n d.0 d.1 f.0 h)))
                 (get_or-set_same s.words (t + 1) 1 0 (in_words s r t small), record { id = id; view = w; at = set_here s.views id w (within s.views id m.0 at); here = live; is = refl; holds = inl (refl, refl) }),
             λ u e'. (
               (λ _. (
@@ -137,6 +137,7 @@ module _ (P N : Type 0) (holds : List (Made N) → List (Desk P) → Type 0) (la
               λ ne. absurd (ne e),
             ),
           )
+
       misses : (y : ℕ) → y ≢ 0 → Goes s (t + 1) (get_or s.words (t + 1) 0) id m (Tried lasts (step slots (t + 1) 0 1 none) m y)
       misses y ne =
           let w : Doing P N = with_hand m.0.hand (refusing (t ∷ []) m.0.sight) m.0 in (
@@ -165,21 +166,22 @@ module _ (P N : Type 0) (holds : List (Made N) → List (Desk P) → Type 0) (la
       let desk = desk_held s r id t v p at live h in
       let n : ℕ = get_or s.words (t + 1) 0 in
       moved P N holds lasts s r (t + 1) n id t v w d d (set s.homes t home') r.log at live live
-          record { number = refl; given = refl; ended = refl }
-          (λ u ne _. apart_words s.words t n u ne)
-          (length-set s.homes t home')
-          (λ u ne. set_else s.homes t u home' ne)
-          desk.0
-          (λ k e. cc)
-          (λ u q ne x. x)
-          (λ u q ne x. x)
-          others
-          (λ q x. let g = desk_held s r id t v q at live x in (some-injective d (desk_of v.sight.number q) (sym desk.0 ∙ g.0), set_here s.homes t home' (in_homes s r t small) ∙ ap some is))
-          (λ k after x _ y. y)
-          (quiet s r id v w (set r.desks t d) (get_or (set s.words (t + 1) n) 0 0) at live (clock_stays s r (t + 1) n (omega arith)) refl refl refl (same_parts r.desks t d d desk.0 refl)
-              (λ wider x. r.kept wider (subst (λ (l : List (Desk P)). Wider l wider) (set_again r.desks t d desk.0) x)))
-          (get_or-set_same s.words (t + 1) n 0 (in_words s r t small) ∙ word_held s r id t v p at live h,
-            record { id = id; view = w; at = set_here s.views id w (within s.views id v at); here = live; is = refl; holds = h })
+      record { number = refl; given = refl; ended = refl }
+      (λ u ne _. apart_words s.words t n u ne)
+      (length-set s.homes t home')
+      (λ u ne. set_else s.homes t u home' ne)
+      desk.0
+      (λ k e. cc)
+      (λ u q ne x. x)
+      (λ u q ne x. x)
+      others
+      (λ q x. let g = desk_held s r id t v q at live x in (some-injective d (desk_of v.sight.number q) (sym desk.0 ∙ g.0), set_here s.homes t home' (in_homes s r t small) ∙ ap some is))
+      (λ k after x _ y. y)
+      (quiet s r id v w (set r.desks t d) (get_or (set s.words (t + 1) n) 0 0) at live (clock_stays s r (t + 1) n (omega arith)) refl refl refl (same_parts r.desks t d d desk.0 refl)
+      (λ wider x. r.kept wider (subst (λ (l : List (Desk P)). Wider l wider) (set_again r.desks t d desk.0) x))) (
+        get_or-set_same s.words (t + 1) n 0 (in_words s r t small) ∙ word_held s r id t v p at live h,
+        record { id = id; view = w; at = set_here s.views id w (within s.views id v at); here = live; is = refl; holds = h },
+      )
 
   pub settles : (slots id : ℕ) (m : Mine P N) (t : ℕ) (p : P) → t < 67 → m.0.spent ≡ false → m.0.hand ≡ suc t → Holds m.0.sight.held t p → m.1 ≡ (t, None) ∷ rest m.1 → Allows (Rule holds lasts) slots id m (t + 1) (λ y. y) (Settled (step slots (t + 1) 0 0 none) m)
   settles slots id m t p small live hand h out s r wide at _ = (
@@ -253,21 +255,21 @@ module _ (P N : Type 0) (holds : List (Made N) → List (Desk P) → Type 0) (la
               seen = old.seen;
               noted = λ x y e f. ⊎_elim
                   (λ (z : Among v.sight.noted x). ⊎_elim
-                      (λ (a : (x.turn ≡ t) × (free_desk q ≡ e)). subst (λ (b : ℕ × Desk P). lasts n x.after b.0 x.part b.1.part) (λ l. (sym a.0 l, a.1 l))
-                          (now.all n x.after x.part (subst (λ (b : ℕ). lasts n x.after b x.part p) a.0 (old.noted x z d (ap (get_elem? r.desks) a.0 ∙ desk.0)))))
-                      (λ (a : (x.turn ≢ t) × (get_elem? r.desks x.turn ≡ some e)). old.noted x z e a.1)
-                      (at_set r.desks t x.turn (free_desk q) e f))
+                  (λ (a : (x.turn ≡ t) × (free_desk q ≡ e)). subst (λ (b : ℕ × Desk P). lasts n x.after b.0 x.part b.1.part) (λ l. (sym a.0 l, a.1 l))
+                  (now.all n x.after x.part (subst (λ (b : ℕ). lasts n x.after b x.part p) a.0 (old.noted x z d (ap (get_elem? r.desks) a.0 ∙ desk.0)))))
+                  (λ (a : (x.turn ≢ t) × (get_elem? r.desks x.turn ≡ some e)). old.noted x z e a.1)
+                  (at_set r.desks t x.turn (free_desk q) e f))
                   (λ (z : ((record { turn = t; part = q; after = [] }) ≡ x) ⊎ ⊥). ⊎_elim
-                      (λ (a : (record { turn = t; part = q; after = [] }) ≡ x). subst (λ (b : Noted P N × Desk P). lasts n b.0.after b.0.turn b.0.part b.1.part)
-                          (λ l. (a l, some-injective (free_desk q) e (sym (set_here r.desks t (free_desk q) (within r.desks t d desk.0)) ∙ ap (get_elem? (set r.desks t (free_desk q))) (ap (λ (b : Noted P N). b.turn) a) ∙ f) l)) now.noted)
-                      (λ (a : ⊥). absurd a)
-                      z)
+                  (λ (a : (record { turn = t; part = q; after = [] }) ≡ x). subst (λ (b : Noted P N × Desk P). lasts n b.0.after b.0.turn b.0.part b.1.part)
+                  (λ l. (a l, some-injective (free_desk q) e (sym (set_here r.desks t (free_desk q) (within r.desks t d desk.0)) ∙ ap (get_elem? (set r.desks t (free_desk q))) (ap (λ (b : Noted P N). b.turn) a) ∙ f) l)) now.noted)
+                  (λ (a : ⊥). absurd a)
+                  z)
                   (among_append v.sight.noted ((record { turn = t; part = q; after = [] }) ∷ []) x y);
               kept = λ wider x.
                   let there = x.same t (free_desk q) (set_here r.desks t (free_desk q) (within r.desks t d desk.0)) in
                   let back = wider_back r.desks wider t d (free_desk q) desk.0 x in
                   subst (holds r.log) (ap (set (set wider t d) t) (λ l. record { holder = there.0.holder; part = sym there.2 l }) ∙ set_back wider t d there.0 there.1)
-                      ((puts r.log (set wider t d) (granted s r id v (set wider t d) at live back)).kept there.0.holder);
+                  ((puts r.log (set wider t d) (granted s r id v (set wider t d) at live back)).kept there.0.holder);
             }
             (get_or-set_same s.words (t + 1) 0 0 (in_words s r t small), set_here s.homes t (some (Some q)) (in_homes s r t small))),
         λ u x e f. ap (λ (z : ℕ × P). (with_hand 0 (releasing z.0 z.1 v.sight) v, rest m.1)) (λ l. (turn_is t u e l, same_value (Some q) q x refl (sym (first_is m.1 t u (Some q) (Some x) (rest m.1) (rest m.1) out f)) l)),
@@ -333,30 +335,31 @@ module _ (P N : Type 0) (holds : List (Made N) → List (Desk P) → Type 0) (la
               seen = omega (arith, longer_by r.log e);
               noted = λ a z y' f. ⊎_elim
                   (λ (b : Among (map (later e) v.sight.noted) a).
-                      let c = among_map (later e) v.sight.noted a b in
-                      ⊎_elim
-                      (λ (g : (a.turn ≡ t) × (d' ≡ y')).
-                          let was = subst (λ (u : ℕ). lasts n c.0.after u c.0.part p) (ap (λ (u : Noted P N). u.turn) c.2 ∙ g.0) (old.noted c.0 c.1 d (ap (get_elem? r.desks) (ap (λ (u : Noted P N). u.turn) c.2 ∙ g.0) ∙ desk.0)) in
-                          subst (λ (u : Noted P N × Desk P). lasts n u.0.after u.0.turn u.0.part u.1.part) (λ l. (c.2 l, g.1 l))
-                              (subst (λ (u : ℕ). lasts n (c.0.after ++ e ∷ []) u c.0.part q) (sym (ap (λ (u : Noted P N). u.turn) c.2 ∙ g.0)) (now.here c.0.after c.0.part was)))
-                      (λ (g : (a.turn ≢ t) × (get_elem? r.desks a.turn ≡ some y')).
-                          let turn = ap (λ (u : Noted P N). u.turn) c.2 in
-                          let there = ap (get_elem? r.desks) turn ∙ g.1 in
-                          subst (λ (u : Noted P N). lasts n u.after u.turn u.part y'.part) c.2 (now.besides c.0.turn c.0.after c.0.part y' (λ is. g.0 (sym turn ∙ is)) there (old.noted c.0 c.1 y' there)))
-                      (at_set r.desks t a.turn d' y' f))
+                  let c = among_map (later e) v.sight.noted a b in
+                  ⊎_elim
+                  (λ (g : (a.turn ≡ t) × (d' ≡ y')).
+                  let was = subst (λ (u : ℕ). lasts n c.0.after u c.0.part p) (ap (λ (u : Noted P N). u.turn) c.2 ∙ g.0) (old.noted c.0 c.1 d (ap (get_elem? r.desks) (ap (λ (u : Noted P N). u.turn) c.2 ∙ g.0) ∙ desk.0)) in
+                  subst (λ (u : Noted P N × Desk P). lasts n u.0.after u.0.turn u.0.part u.1.part) (λ l. (c.2 l, g.1 l))
+                  (subst (λ (u : ℕ). lasts n (c.0.after ++ e ∷ []) u c.0.part q) (sym (ap (λ (u : Noted P N). u.turn) c.2 ∙ g.0)) (now.here c.0.after c.0.part was)))
+                  (λ (g : (a.turn ≢ t) × (get_elem? r.desks a.turn ≡ some y')).
+                  let turn = ap (λ (u : Noted P N). u.turn) c.2 in
+                  let there = ap (get_elem? r.desks) turn ∙ g.1 in
+                  subst (λ (u : Noted P N). lasts n u.after u.turn u.part y'.part) c.2 (now.besides c.0.turn c.0.after c.0.part y' (λ is. g.0 (sym turn ∙ is)) there (old.noted c.0 c.1 y' there)))
+                  (at_set r.desks t a.turn d' y' f))
                   (λ (b : (fresh ≡ a) ⊎ ⊥). ⊎_elim
-                      (λ (c : fresh ≡ a). subst (λ (u : Noted P N × Desk P). lasts n u.0.after u.0.turn u.0.part u.1.part)
-                          (λ l. (c l, some-injective d' y' (sym (set_here r.desks t d' (within r.desks t d desk.0)) ∙ ap (get_elem? (set r.desks t d')) (ap (λ (u : Noted P N). u.turn) c) ∙ f) l)) now.noted)
-                      (λ (c : ⊥). absurd c)
-                      b)
+                  (λ (c : fresh ≡ a). subst (λ (u : Noted P N × Desk P). lasts n u.0.after u.0.turn u.0.part u.1.part)
+                  (λ l. (c l, some-injective d' y' (sym (set_here r.desks t d' (within r.desks t d desk.0)) ∙ ap (get_elem? (set r.desks t d')) (ap (λ (u : Noted P N). u.turn) c) ∙ f) l)) now.noted)
+                  (λ (c : ⊥). absurd c)
+                  b)
                   (among_append (map (later e) v.sight.noted) (fresh ∷ []) a z);
               kept = λ wider z.
                   let there = z.same t d' (set_here r.desks t d' (within r.desks t d desk.0)) in
                   let back = wider_back r.desks wider t d d' desk.0 z in
                   subst (holds log') (set_back wider t d d' (there.1 ∙ ap some (there.3 n refl))) ((makes r.log (set wider t d) (granted s r id v (set wider t d) at live back)).kept);
-            }
-            (get_or-set_other s.words 0 (t + 1) ((y + 1) % 2 ^ 64) 0 (λ e. omega arith) ∙ word_held s r id t v p at live h,
-              record { id = id; view = w; at = set_here s.views id w (within s.views id v at); here = live; is = refl; holds = inl (refl, refl) }),
+            } (
+              get_or-set_other s.words 0 (t + 1) ((y + 1) % 2 ^ 64) 0 (λ e. omega arith) ∙ word_held s r id t v p at live h,
+              record { id = id; view = w; at = set_here s.views id w (within s.views id v at); here = live; is = refl; holds = inl (refl, refl) },
+            ),
         λ a b f g. (
           k,
           (old.seen, r.clock),

@@ -17,3 +17,6 @@ pub use seats::{Held, Pass};
 pub use shared::Shared;
 pub use sight::{Doing, Ended, Made, Noted, Sight};
 pub use turns::Turns;
+
+#[cfg(test)]
+mod tests;

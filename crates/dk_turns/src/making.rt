@@ -14,8 +14,7 @@ use crate::seats::{Pass, Place};
 use crate::shared::Shared;
 use crate::turns::{Board, TURNS, Turns, WORDS};
 use atomic_table::{Closed, Refused, Table};
-use std::alloc::AllocError as OutOfMemory;
-use std::alloc::Global;
+use std::alloc::{AllocError as OutOfMemory, Global};
 use std::sync::Mutex;
 
 impl<S: Shared> Turns<S> {

@@ -16,7 +16,7 @@ join_seat-requires g c =
     let items = c.pop-in-loop-pass.ensures.items ∙ ap (λ o. c.pop-in-loop-pass.new.self.items ++ option_to_list o) c.in-Some-pop.is in
     let i = c.loop-pass.invariant in
     let next = next_is c.args.board.now.table_id c.loop-pass.keeper.table_id c.pop-in-loop-pass.new.self.items c.args.passes.items c.in-Some-pop.pass c.loop-pass.keeper.me
-        (subst (λ l. Gathering c.args.board.now.table_id c.args.passes.items l c.loop-pass.keeper.table_id c.loop-pass.keeper.me) items i) in
+    (subst (λ l. Gathering c.args.board.now.table_id c.args.passes.items l c.loop-pass.keeper.table_id c.loop-pass.keeper.me) items i) in
     let seat = c.into_seat.ensures in (
       i.table_is,
       seat.0 ∙ next.0,
@@ -31,7 +31,7 @@ loop-pass-preserved g c =
     let seat = c.into_seat.ensures in
     let joined = c.join_seat.ensures in
     gather_more c.args.board.now.table_id c.loop-pass.keeper.table_id c.join_seat.new.seat.table_id c.pop-in-loop-pass.new.self.items c.loop-pass.passes.items c.args.passes.items c.in-Some-pop.pass
-        c.loop-pass.keeper.me c.join_seat.new.seat.me c.into_seat.result.me.0 items c.loop-pass.invariant (sym seat.2) joined.0 joined.2
+    c.loop-pass.keeper.me c.join_seat.new.seat.me c.into_seat.result.me.0 items c.loop-pass.invariant (sym seat.2) joined.0 joined.2
 
 pub returns-clause-last : goal.returns-clause-last
 returns-clause-last g c =

@@ -14,4 +14,4 @@ pub returns : goal.returns
 returns g c =
     let end = c.close_with-closed.ensures.values.2 in
     history _ _ g.S.Shared.holds g.S.Shared.lasts end.0 c.gather-keeper.result.id c.gather-keeper.result.me.0 c.gather-keeper.ensures.last.1 end.1 c.args.passes.items c.gather-keeper.ensures.joined
-        c.unload.new.parts.items _ c.unload.ensures.parts end.3 end.4
+    c.unload.new.parts.items _ c.unload.ensures.parts end.3 end.4
