@@ -1,14 +1,13 @@
 -- What a pass has between the steps of one call.
-use Rattle.std.proofs.Common.{◌≡◌, ◌≢◌, ℕ, suc, List, [], ◌∷◌, true, false, refl, sym, ap, ◌∙◌, subst, inl}
-use Rattle.std.specs.Prelude.{Option, Some, None}
+use Rattle.std.proofs.Common.{◌≡◌, ℕ, suc, List, [], ◌∷◌, false, refl, sym, ap, ◌∙◌, subst, inl}
+use Rattle.std.specs.Prelude.{Option}
 use Rattle.atomic_table.specs.Table.{rest}
 use Rattle.dk_turns.specs.declared.sight.Made.{Made}
 use Rattle.dk_turns.specs.declared.sight.Sight.{Sight}
-use Rattle.dk_turns.specs.declared.sight.Doing.{Doing}
 use Rattle.dk_turns.specs.Desks.{Desk, Holds}
 use Rattle.dk_turns.specs.History.{PutsBack}
 use Rattle.dk_turns.proofs.Lists.{first_is}
-use Rattle.dk_turns.specs.Steps.{Mine, IsIdle, taking, refusing, releasing, making, with_hand, Lasting}
+use Rattle.dk_turns.specs.Steps.{Mine, IsIdle, taking, making, with_hand, Lasting}
 
 headed : {P : Type 0} (x : ℕ × Option P) (l xs : List (ℕ × Option P)) → l ≡ x ∷ xs → l ≡ x ∷ rest l
 headed {P = P} x l xs e = subst (λ (y : List (ℕ × Option P)). y ≡ x ∷ rest y) (sym e) refl

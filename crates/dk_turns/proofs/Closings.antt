@@ -1,5 +1,5 @@
 -- What the last pass says of the one history.
-use Rattle.std.proofs.Common.{◌≡◌, ◌⊎◌, ℕ, ◌≤◌, List, [], length, map, refl, sym, ap, ◌∙◌, subst, ⊎_elim, arith}
+use Rattle.std.proofs.Common.{◌≡◌, ℕ, List, length, map, sym, ap, ◌∙◌, subst, ⊎_elim, arith}
 use mathlib.Core.Option.{some}
 use lib.ListN.{get_elem?}
 use Rattle.std.specs.Prelude.{Option, Some}
@@ -8,10 +8,10 @@ use Rattle.atomic_table.specs.Table as table
 use Rattle.dk_turns.specs.declared.sight.Made.{Made}
 use Rattle.dk_turns.specs.declared.sight.Ended.{Ended}
 use Rattle.dk_turns.specs.declared.sight.Doing.{Doing}
-use Rattle.dk_turns.specs.Desks.{Desk, free_desk, Among}
+use Rattle.dk_turns.specs.Desks.{Desk, Among}
 use Rattle.dk_turns.specs.History.{own}
 use Rattle.dk_turns.specs.Rule.{Rule, Last}
-use Rattle.dk_turns.specs.Seen.{Seen, given_by, IsIn, Joined, History}
+use Rattle.dk_turns.specs.Seen.{Seen, Joined, History}
 use Rattle.dk_turns.proofs.Histories.{wider_self}
 use Rattle.dk_turns.proofs.Comings.{desks_are_parts}
 

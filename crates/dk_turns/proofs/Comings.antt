@@ -1,23 +1,19 @@
 -- How passes come and go, and how the table begins and ends.
-use Rattle.std.proofs.Common.{◌≡◌, ◌≢◌, ◌⊎◌, ℕ, zero, suc, ◌+◌, ◌%◌, ◌^◌, ◌<◌, ◌≤◌, eqb, cond, Bool, true, false, List, [], ◌∷◌, ◌++◌, length, get_or, set, map, replicate, refl, sym, ap, ◌∙◌, subst, inl, inr, ⊎_elim, arith, length-set, le_refl}
+use Rattle.std.proofs.Common.{◌≡◌, ◌≢◌, ◌⊎◌, ℕ, zero, suc, ◌+◌, ◌<◌, eqb, cond, true, false, List, [], ◌∷◌, ◌++◌, length, set, map, replicate, refl, sym, ap, ◌∙◌, subst, inl, inr, ⊎_elim, arith, length-set}
 use Rattle.std.proofs.lemmas.List.{length-map, length-replicate, get_or-replicate}
-use mathlib.Core.Option as maybe
-use mathlib.Core.Option.{none, some, some-injective, some-ne-none}
+use mathlib.Core.Option.{some, some-injective, some-ne-none}
 use lib.ListN.{get_elem?}
 use Rattle.std.specs.Prelude.{Option, Some, None}
 use Rattle.atomic_table.specs.Table.{State, Splits, Joins, opening, Seen}
-use Rattle.atomic_table.proofs.Lists.{at_set, set_here, set_else, at_longer}
+use Rattle.atomic_table.proofs.Lists.{at_set, set_else, at_longer}
 use Rattle.dk_turns.specs.declared.sight.Made.{Made}
-use Rattle.dk_turns.specs.declared.sight.Noted.{Noted}
 use Rattle.dk_turns.specs.declared.sight.Ended.{Ended}
-use Rattle.dk_turns.specs.declared.sight.Sight.{Sight}
 use Rattle.dk_turns.specs.declared.sight.Doing.{Doing}
-use Rattle.dk_turns.specs.Desks.{Desk, free_desk, desk_of, Holds, without, home, Among}
+use Rattle.dk_turns.specs.Desks.{Desk, free_desk, Holds, Among}
 use Rattle.dk_turns.specs.History.{own}
 use Rattle.dk_turns.specs.Rule.{Holder, Sits, Wider, Knows, Rule, Last, newcomer}
 use Rattle.dk_turns.specs.Steps.{giver, given_to, joined, spent_pass}
-use Rattle.dk_turns.proofs.Lists.{choice, chosen, passed_over, among_append}
-use Rattle.dk_turns.proofs.Histories.{wider_self}
+use Rattle.dk_turns.proofs.Lists.{chosen, passed_over, among_append}
 use Rattle.dk_turns.proofs.Keeps.{holder_stays, within}
 
 at_end : {A : Type 0} (l : List A) (a b : A) (j : ℕ) → get_elem? (l ++ a ∷ []) j ≡ some b → (get_elem? l j ≡ some b) ⊎ ((j ≡ length l) × (a ≡ b))

@@ -1,15 +1,14 @@
 -- Counters that add up, for the tests.
-use Rattle.std.proofs.Common.{◌≡◌, ◌≢◌, ◌⊎◌, ℕ, zero, suc, ◌+◌, ◌≤◌, ◌<◌, List, [], ◌∷◌, ◌++◌, length, map, take, set, get_or, replicate, refl, sym, ap, ◌∙◌, subst, inl, inr, ⊎_elim, arith, length-append, le_refl}
+use Rattle.std.proofs.Common.{◌≡◌, ◌⊎◌, ℕ, zero, suc, ◌+◌, ◌<◌, List, [], ◌∷◌, ◌++◌, length, map, take, set, get_or, replicate, refl, sym, ap, ◌∙◌, subst, inl, inr, ⊎_elim, arith, length-append, le_refl}
 use mathlib.Core.Option.{some, some-injective, some-ne-none}
 use lib.ListN.{get_elem?}
-use Rattle.std.specs.Prelude.{Option, Some, None}
-use Rattle.dk_turns.specs.declared.sight.Made.{Made}
+use Rattle.std.specs.Prelude.{Some}
 use Rattle.dk_turns.specs.declared.sight.Sight.{Sight}
 use Rattle.dk_turns.specs.Desks.{Desk, free_desk, desk_of, Holds, without, Among}
 use Rattle.dk_turns.specs.History.{Makes, PutsBack}
 use Rattle.dk_turns.specs.Rule.{Wider, newcomer}
 use Rattle.dk_turns.specs.Seen.{Seen, Shown, Waited, MayMake, MayPutBack, given_by, HasNumber, AllIdle}
-use Rattle.dk_turns.specs.Steps.{taking, refusing, making, releasing, giving}
+use Rattle.dk_turns.specs.Steps.{taking, making, giving}
 use Rattle.dk_turns.specs.Stays.{total, AddsUp, NeverFalls, Stays, IsReady}
 use Rattle.atomic_table.specs.Seated.{TableId}
 use mathlib.Core.Logic.{dite}

@@ -1,13 +1,12 @@
 -- How passes are joined to one.
-use Rattle.std.proofs.Common.{◌≡◌, ◌≢◌, ◌⊎◌, ℕ, ◌+◌, ◌<◌, List, [], ◌∷◌, ◌++◌, length, false, refl, sym, ap, ◌∙◌, subst, inl, inr, ⊎_elim, arith}
+use Rattle.std.proofs.Common.{◌≡◌, ◌⊎◌, ◌+◌, List, [], ◌∷◌, ◌++◌, length, refl, sym, ap, ◌∙◌, subst, inl, inr, ⊎_elim, arith}
 use Rattle.atomic_table.specs.Seated.{TableId}
-use Rattle.dk_turns.specs.declared.sight.Made.{Made}
 use Rattle.dk_turns.specs.declared.sight.Ended.{Ended}
 use Rattle.dk_turns.specs.declared.sight.Sight.{Sight}
 use Rattle.dk_turns.specs.declared.sight.Doing.{Doing}
 use Rattle.dk_turns.specs.Desks.{Among}
 use Rattle.dk_turns.specs.Rule.{Last}
-use Rattle.dk_turns.specs.Seen.{Seen, given_by, HasNumber, AllIdle, IsWhole, IsIn, Joined}
+use Rattle.dk_turns.specs.Seen.{Seen, given_by, AllIdle, IsWhole, IsIn, Joined}
 use Rattle.dk_turns.specs.Steps.{Mine, IsIdle, joined}
 use Rattle.dk_turns.proofs.Lists.{among_append, among_right}
 

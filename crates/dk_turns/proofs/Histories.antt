@@ -1,16 +1,16 @@
 -- Own events in the history, and wider desks.
-use Rattle.std.proofs.Common.{◌≡◌, ◌≢◌, ◌⊎◌, ℕ, zero, suc, ◌+◌, eqb, cond, Bool, true, false, List, [], ◌∷◌, ◌++◌, length, set, refl, sym, ap, ◌∙◌, subst, inl, inr, ⊎_elim, arith, append-nil, length-set}
-use mathlib.Core.Option.{none, some, some-injective, some-ne-none}
+use Rattle.std.proofs.Common.{◌≡◌, ◌≢◌, ℕ, zero, suc, ◌+◌, eqb, cond, Bool, true, false, List, [], ◌∷◌, ◌++◌, length, set, refl, sym, ap, ◌∙◌, arith, append-nil, length-set}
+use mathlib.Core.Option.{some, some-injective}
 use mathlib.Core.Logic.{dite}
 use native.Mathlib.Decide.{ℕ_discrete}
 use lib.ListN.{get_elem?}
-use Rattle.std.specs.Prelude.{Option, Some, None}
-use Rattle.atomic_table.proofs.Lists.{at_set, set_here, set_else, set_again}
+use Rattle.std.specs.Prelude.{Some, None}
+use Rattle.atomic_table.proofs.Lists.{set_here, set_else, set_again}
 use Rattle.dk_turns.specs.declared.sight.Made.{Made}
 use Rattle.dk_turns.specs.Desks.{Desk, desk_of}
 use Rattle.dk_turns.specs.History.{own, own_from}
 use Rattle.dk_turns.specs.Rule.{Wider}
-use Rattle.dk_turns.proofs.Lists.{choice, chosen, passed_over}
+use Rattle.dk_turns.proofs.Lists.{chosen, passed_over}
 use Rattle.dk_turns.proofs.Keeps.{within}
 
 module _ {N : Type 0} where

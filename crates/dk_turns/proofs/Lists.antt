@@ -1,11 +1,10 @@
 -- Lists of turns that are held.
-use Rattle.std.proofs.Common.{◌≡◌, ◌≢◌, ◌⊎◌, ℕ, suc, eqb, cond, Bool, true, false, List, [], ◌∷◌, ◌++◌, map, refl, sym, ap, ◌∙◌, subst, inl, inr, ⊎_elim, arith, eq-eqb, ne_eqb}
-use mathlib.Core.Option as maybe
+use Rattle.std.proofs.Common.{◌≡◌, ◌≢◌, ◌⊎◌, ℕ, suc, eqb, cond, List, [], ◌∷◌, ◌++◌, map, refl, sym, ap, ◌∙◌, subst, inl, inr, ⊎_elim, eq-eqb, ne_eqb}
 use mathlib.Core.Option.{none, some}
 use mathlib.Core.Logic.{dite}
 use native.Mathlib.Decide.{ℕ_discrete}
 use Rattle.std.specs.Prelude.{Option, Some, None}
-use Rattle.dk_turns.specs.Desks.{Desk, Holds, without, home, Among}
+use Rattle.dk_turns.specs.Desks.{Holds, without, home, Among}
 
 -- a choice by an equality of numbers
 pub choice : {A : Type 0} (n m : ℕ) (x y : A) (F : A → Type 0) → (n ≡ m → F x) → (n ≢ m → F y) → F (cond (eqb n m) x y)

@@ -1,7 +1,7 @@
 -- Parts that move between two vectors, last first.
-use Rattle.std.proofs.Common.{◌≡◌, ℕ, List, [], ◌∷◌, ◌++◌, map, reverse, refl, sym, ap, ◌∙◌, append_assoc}
+use Rattle.std.proofs.Common.{◌≡◌, List, [], ◌∷◌, ◌++◌, map, reverse, refl, sym, ap, ◌∙◌, append_assoc}
 use Rattle.std.proofs.lemmas.List.{reverse-append, map-append}
-use Rattle.std.specs.Prelude.{Option, Some, None}
+use Rattle.std.specs.Prelude.{Option, Some}
 
 module _ {T : Type 0} where
   pub fill_more : (ps : List T) (x : T) (ss all : List (Option T)) → map Some (ps ++ x ∷ []) ++ reverse ss ≡ all → map Some ps ++ reverse (ss ++ Some x ∷ []) ≡ all

@@ -1,27 +1,24 @@
 -- Each step on a turn, or on the clock, keeps the rule.
-use Rattle.std.proofs.Common.{◌≡◌, ◌≢◌, ◌⊎◌, ℕ, zero, suc, ◌+◌, ◌%◌, ◌^◌, ◌<◌, ◌≤◌, eqb, cond, Bool, true, false, List, [], ◌∷◌, ◌++◌, length, map, get_or, set, refl, sym, ap, ◌∙◌, subst, inl, inr, ⊎_elim, arith, length-set, length-append, le_refl, get_or-set_other, get_or-set_same}
+use Rattle.std.proofs.Common.{◌≡◌, ◌≢◌, ◌⊎◌, ℕ, zero, suc, ◌+◌, ◌%◌, ◌^◌, ◌<◌, ◌≤◌, eqb, false, List, [], ◌∷◌, ◌++◌, length, map, get_or, set, refl, sym, ap, ◌∙◌, subst, inl, inr, ⊎_elim, arith, length-set, length-append, le_refl, get_or-set_other, get_or-set_same}
 use Rattle.std.proofs.lemmas.List.{set-get_or}
 use Rattle.std.proofs.Math.Nat.{mod-add-mod}
 use mathlib.Core.Option as maybe
 use mathlib.Core.Option.{none, some, some-injective}
-use mathlib.Core.Logic.{dite}
-use native.Mathlib.Decide.{ℕ_discrete}
 use lib.ListN.{get_elem?}
 use prog.Atomic.{either}
 use Rattle.std.specs.Prelude.{Option, Some, None}
-use Rattle.atomic_table.specs.Table.{State, Me, Act, step, keeps, takes, gives, rest, Allows, stepped, carried_after, homes_after, Valid}
+use Rattle.atomic_table.specs.Table.{State, Act, step, keeps, takes, gives, rest, Allows, stepped, carried_after, Valid}
 use Rattle.atomic_table.proofs.Lists.{at_set, set_here, set_else, set_again, exchanged}
 use Rattle.dk_turns.specs.declared.sight.Made.{Made}
 use Rattle.dk_turns.specs.declared.sight.Noted.{Noted}
-use Rattle.dk_turns.specs.declared.sight.Sight.{Sight}
 use Rattle.dk_turns.specs.declared.sight.Doing.{Doing}
 use Rattle.dk_turns.specs.Desks.{Desk, free_desk, desk_of, Holds, without, home, Among}
-use Rattle.dk_turns.specs.History.{own, Given, Keeps, Makes, KeepsFree, MakesFree, KeepsBack, PutsBack}
-use Rattle.dk_turns.specs.Rule.{Holder, Sits, Wider, Knows, Rule}
-use Rattle.dk_turns.specs.Steps.{Mine, taking, refusing, releasing, looking, later, made_under, made_free, making, making_free, Lasting, with_hand, Tried, Settled, Fetched, Gave, Stayed, Looked, IsNext, Ticked, TickedFree}
+use Rattle.dk_turns.specs.History.{Given, Makes, MakesFree, PutsBack}
+use Rattle.dk_turns.specs.Rule.{Sits, Wider, Rule}
+use Rattle.dk_turns.specs.Steps.{Mine, taking, refusing, releasing, looking, later, made_under, made_free, making, making_free, with_hand, Tried, Settled, Fetched, Gave, Stayed, Looked, Ticked, TickedFree}
 use Rattle.dk_turns.proofs.Lists.{home_here, home_else, holds_without, without_holds, among_append, among_map, first_is, same_value}
 use Rattle.dk_turns.proofs.Histories.{own_mine, own_other, set_back, wider_self, wider_taken, wider_back}
-use Rattle.dk_turns.proofs.Keeps.{Same, Next, moved, stands, within}
+use Rattle.dk_turns.proofs.Keeps.{Next, moved, stands, within}
 
 module _ (P N : Type 0) (holds : List (Made N) → List (Desk P) → Type 0) (lasts : ℕ → List (Made N) → ℕ → P → P → Type 0) where
   abbrev St : Type 0

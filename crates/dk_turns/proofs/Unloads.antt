@@ -1,9 +1,8 @@
 -- How the slots are emptied, one after another.
-use Rattle.std.proofs.Common.{◌≡◌, ◌≢◌, ℕ, zero, suc, ◌+◌, ◌<◌, ◌≤◌, List, [], ◌∷◌, ◌++◌, Bool, true, false, length, map, take, set, get_or, refl, sym, ap, ◌∙◌, subst, arith, add-one, get_or-set_other}
+use Rattle.std.proofs.Common.{◌≡◌, ℕ, zero, suc, ◌+◌, ◌<◌, ◌≤◌, List, [], ◌∷◌, ◌++◌, Bool, true, false, map, take, set, get_or, refl, sym, ap, ◌∙◌, arith, add-one, get_or-set_other}
 use Rattle.std.proofs.lemmas.List.{map-append}
-use Rattle.std.specs.Prelude.{Option, Some, None, slice_index_or, slice_set}
-use mathlib.Core.Option as maybe
-use mathlib.Core.Option.{none, some, some-injective, some-ne-none}
+use Rattle.std.specs.Prelude.{Option, Some, slice_index_or, slice_set}
+use mathlib.Core.Option.{some, some-injective, some-ne-none}
 use mathlib.Core.Logic.{dite}
 use native.Mathlib.Decide.{ℕ_discrete}
 use lib.ListN.{get_elem?}

@@ -1,5 +1,5 @@
 -- What a pass knows after it has waited.
-use Rattle.std.proofs.Common.{◌≡◌, ℕ, List, [], ◌∷◌, ◌++◌, refl, sym, ap, ◌∙◌, subst, append_assoc, append-nil}
+use Rattle.std.proofs.Common.{◌≡◌, ℕ, List, [], ◌++◌, refl, sym, ap, ◌∙◌, subst, append_assoc, append-nil}
 use Rattle.dk_turns.specs.declared.sight.Made.{Made}
 use Rattle.dk_turns.specs.declared.sight.Sight.{Sight}
 use Rattle.dk_turns.specs.Seen.{Waited}

@@ -3,7 +3,6 @@ use Rattle.std.specs.Prelude.{◌≡◌, ◌≢◌, ℕ, suc, ◌+◌, ◌%◌, 
 use Rattle.atomic_table.specs.Table.{Me, Step, rest}
 use Rattle.dk_turns.specs.declared.sight.Made.{Made}
 use Rattle.dk_turns.specs.declared.sight.Noted.{Noted}
-use Rattle.dk_turns.specs.declared.sight.Ended.{Ended}
 use Rattle.dk_turns.specs.declared.sight.Sight.{Sight}
 use Rattle.dk_turns.specs.declared.sight.Doing.{Doing}
 use Rattle.dk_turns.specs.Desks.{without, Among}

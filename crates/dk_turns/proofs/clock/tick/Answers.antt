@@ -1,4 +1,4 @@
-use Rattle.std.proofs.Common.{◌≡◌, ◌<◌, Some, rules, sym, ap, ◌∙◌, subst, arith}
+use Rattle.std.proofs.Common.{◌∙◌, arith}
 use Rattle.dk_turns.proofs.Between.{kept_still, making_turn}
 use Rattle.dk_turns.proofs.Clocks.{ticks_as}
 use Rattle.dk_turns.proofs.clock.tick.Goals as goal

@@ -1,5 +1,4 @@
-use Rattle.std.proofs.Common.{◌≡◌, ◌<◌, Some, rules, sym, ap, ◌∙◌, subst, arith}
-use Rattle.dk_turns.proofs.Between.{kept_still}
+use Rattle.std.proofs.Common.{arith}
 use Rattle.dk_turns.proofs.Clocks.{ticks_free_as}
 use Rattle.dk_turns.proofs.clock.tick_free.Goals as goal
 

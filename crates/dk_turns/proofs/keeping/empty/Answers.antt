@@ -1,4 +1,4 @@
-use Rattle.std.proofs.Common.{◌≡◌, ◌∷◌, [], ◌++◌, map, Some, None, sym, ap, ◌∙◌, arith}
+use Rattle.std.proofs.Common.{◌++◌, map, Some, None, sym, ap, ◌∙◌, arith}
 use Rattle.std.specs.Option.{option_to_list}
 use Rattle.dk_turns.proofs.Slots.{last_full, empty_more}
 use Rattle.dk_turns.proofs.keeping.empty.Goals as goal

@@ -1,4 +1,4 @@
-use Rattle.std.proofs.Common.{◌≡◌, ◌<◌, ◌++◌, length, refl, sym, ap, ◌∙◌, subst, arith}
+use Rattle.std.proofs.Common.{◌≡◌, ◌++◌, length, sym, ap, ◌∙◌, subst, arith}
 use Rattle.std.specs.Option.{option_to_list}
 use Rattle.dk_turns.proofs.Gathers.{Gathering, gather_first, gather_more, gather_end, no_items, next_is}
 use Rattle.dk_turns.proofs.Comings.{joins}

@@ -1,4 +1,4 @@
-use Rattle.std.proofs.Common.{◌≡◌, ◌+◌, Some, None, refl, sym, ap, ◌∙◌, arith}
+use Rattle.std.proofs.Common.{◌+◌, Some, None, refl, ◌∙◌, arith}
 use Rattle.dk_turns.specs.Steps.{taking}
 use Rattle.dk_turns.proofs.Between.{taken_out, swapped, home_again, missed, out_first, out_value, holds_in, holds_taking, taking_value, lasting_value}
 use Rattle.dk_turns.proofs.Lists.{same_value}

@@ -1,4 +1,4 @@
-use Rattle.std.proofs.Common.{ℕ, ◌<◌, ◌+◌, ◌-◌, ◌^◌, ◌%◌, arith}
+use Rattle.std.proofs.Common.{◌<◌, ◌+◌, ◌^◌, ◌%◌, arith}
 use Rattle.dk_turns.proofs.Takes.{stays}
 use Rattle.dk_turns.proofs.taking.enlist.Goals as goal
 

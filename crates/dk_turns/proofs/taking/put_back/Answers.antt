@@ -1,4 +1,4 @@
-use Rattle.std.proofs.Common.{◌≡◌, ◌+◌, Some, None, refl, sym, ap, ◌∙◌, arith}
+use Rattle.std.proofs.Common.{◌+◌, Some, None, refl, ap, ◌∙◌, arith}
 use Rattle.dk_turns.specs.Steps.{releasing}
 use Rattle.dk_turns.proofs.Between.{taken_out, swapped, home_again, out_first, out_value, holds_in, puts_in}
 use Rattle.dk_turns.proofs.Takes.{fetches, gives_back}

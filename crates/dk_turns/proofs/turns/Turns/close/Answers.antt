@@ -1,4 +1,4 @@
-use Rattle.std.proofs.Common.{◌≡◌, sym, ◌∙◌}
+use Rattle.std.proofs.Common.{sym, ◌∙◌}
 use Rattle.std.specs.Prelude.{Some}
 use Rattle.dk_turns.proofs.Comings.{all_home}
 use Rattle.dk_turns.proofs.Closings.{history}

@@ -1,4 +1,4 @@
-use Rattle.std.proofs.Common.{◌≡◌, ◌<◌, rules, arith}
+use Rattle.std.proofs.Common.{rules, arith}
 use Rattle.dk_turns.proofs.Takes.{looks}
 use Rattle.dk_turns.proofs.turns.Turns.look.Goals as goal
 

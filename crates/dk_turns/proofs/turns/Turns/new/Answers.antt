@@ -1,7 +1,4 @@
-use Rattle.std.proofs.Common.{◌≡◌, ℕ, List, length, replicate, rules, sym, ap, ◌∙◌, subst, arith}
-use Rattle.std.specs.Prelude.{Option, Some}
-use Rattle.atomic_table.specs.Table.{opening}
-use Rattle.dk_turns.specs.Rule.{Rule, newcomer}
+use Rattle.std.proofs.Common.{rules, ◌∙◌}
 use Rattle.dk_turns.proofs.Comings.{starts}
 use Rattle.dk_turns.proofs.Slots.{map_some_injective}
 use Rattle.dk_turns.proofs.turns.Turns.new.Goals as goal

@@ -1,4 +1,4 @@
-use Rattle.std.proofs.Common.{◌≡◌, ◌<◌, rules, sym, ap, ◌∙◌, arith}
+use Rattle.std.proofs.Common.{rules, arith}
 use Rattle.dk_turns.proofs.Comings.{splits}
 use Rattle.dk_turns.proofs.turns.Turns.split.Goals as goal
 
