@@ -12,7 +12,8 @@ pub(crate) type Place<S> = Seat<
     Doing<<S as Shared>::Part, <S as Shared>::Note>,
 >;
 
-/// A session's seat at the turns. It has no bytes.
+/// A session's seat at the turns. It has no bytes. A contract sees what it knows: its number, the turns that it holds, the
+/// places of its own events, the least place that it has not seen, and what it has noted.
 pub struct Pass<S: Shared> {
     pub(crate) seat: Place<S>,
 }
@@ -66,6 +67,7 @@ impl<S: Shared> Held<S> {
         self.turn
     }
 
+    /// The part, as it is now.
     pub fn part(&self) -> &S::Part
         ensures { result.now ≡ self.now.part }
     {
