@@ -1,0 +1,203 @@
+-- Steps that keep the rule, whatever they tell.
+use Rattle.std.proofs.Common.{◌≡◌, ◌≢◌, ℕ, zero, suc, ◌+◌, ◌%◌, ◌^◌, ◌<◌, ◌≤◌, false, List, [], ◌∷◌, length, get_or, set, sym, ap, ◌∙◌, subst, ⊎_elim, arith, length-set}
+use mathlib.Core.Option as maybe
+use mathlib.Core.Option.{none, some, some-injective, some-ne-none}
+use mathlib.Core.Logic.{dite}
+use native.Mathlib.Decide.{ℕ_discrete}
+use lib.ListN.{get_elem?}
+use Rattle.std.specs.Prelude.{Option, Some, None}
+use Rattle.atomic_table.specs.Table.{State}
+use Rattle.atomic_table.proofs.Lists.{at_set, set_here, set_else}
+use Rattle.dk_turns.specs.declared.sight.Made.{Made}
+use Rattle.dk_turns.specs.declared.sight.Noted.{Noted}
+use Rattle.dk_turns.specs.declared.sight.Ended.{Ended}
+use Rattle.dk_turns.specs.declared.sight.Doing.{Doing}
+use Rattle.dk_turns.specs.Desks.{Desk, desk_of, Holds, home, Among}
+use Rattle.dk_turns.specs.History.{own}
+use Rattle.dk_turns.specs.Rule.{Holder, Sits, Wider, Knows, Rule}
+
+pub within : {A : Type 0} (l : List A) (i : ℕ) (a : A) → get_elem? l i ≡ some a → i < length l
+within [] i a e = absurd (some-ne-none a (sym e))
+within (x ∷ xs) zero a e = omega arith
+within (x ∷ xs) (suc i) a e = let h = within xs i a e in omega (arith, h)
+
+-- the two views have one number, and gave and joined the same
+pub record Same {P N : Type 0} (v w : Doing P N) : Type 0 where
+  pub number : w.sight.number ≡ v.sight.number
+  pub given : w.sight.given ≡ v.sight.given
+  pub ended : w.sight.ended ≡ v.sight.ended
+
+-- a turn that is held stays so
+pub holder_stays : {P N : Type 0} (views : List (Doing P N)) (id n t : ℕ) (v w : Doing P N) (p : P) → id < length views → get_elem? views id ≡ some v → w.spent ≡ false → w.sight.number ≡ v.sight.number → (Holds v.sight.held t p → Holds w.sight.held t p)
+    → Holder views n t p → Holder (set views id w) n t p
+holder_stays {P = P} {N = N} views id n t v w p near at here same keeps h =
+    dite (ℕ_discrete h.id id)
+    (λ e. let is : h.view ≡ v = some-injective h.view v (sym h.at ∙ ap (get_elem? views) e ∙ at) in
+    record { id = id; view = w; at = set_here views id w near; here = here; is = same ∙ ap (λ (x : Doing P N). x.sight.number) (sym is) ∙ h.is; holds = keeps (subst (λ (x : Doing P N). Holds x.sight.held t p) is h.holds) })
+    (λ ne. record { id = h.id; view = h.view; at = set_else views id h.id w ne ∙ h.at; here = h.here; is = h.is; holds = h.holds })
+
+module _ (P N : Type 0) (holds : List (Made N) → List (Desk P) → Type 0) (lasts : ℕ → List (Made N) → ℕ → P → P → Type 0) where
+  abbrev pub St : Type 0
+  St = State (Option P) (Doing P N)
+
+  -- the history goes on, from log to log', and the desks and the stepping pass are then these
+  pub record Next (log log' : List (Made N)) (desks' : List (Desk P)) (number word : ℕ) (w : Doing P N) : Type 0 where
+    pub clock : word ≡ length log' % 2 ^ 64
+    pub others : (n : ℕ) → n ≢ number → own n log' ≡ own n log
+    pub longer : length log ≤ length log'
+    pub made : w.sight.events ≡ own number log'
+    pub seen : w.sight.seen ≤ length log'
+    pub noted : (m : Noted P N) → Among w.sight.noted m → (d : Desk P) → get_elem? desks' m.turn ≡ some d → lasts number m.after m.turn m.part d.part
+    pub kept : (wider : List (Desk P)) → Wider desks' wider → holds log' wider
+
+  -- what was joined to a pass, once the history went on
+  joined_later : (s : St) (r : Rule holds lasts s) (log' : List (Made N)) (number id : ℕ) (x : Doing P N) → ((n : ℕ) → n ≢ number → own n log' ≡ own n r.log) → ((e : Ended N) → Among x.sight.ended e → e.number ≢ number)
+      → Knows holds lasts r.total r.seat r.log r.desks s.homes id x
+      → (e : Ended N) → Among x.sight.ended e → (r.seat e.number ≡ id) × (e.number ≢ x.sight.number) × (e.number < r.total) × (e.events ≡ own e.number log')
+  joined_later s r log' number id x others apart g e h = let j = g.joined e h in (j.0, j.1, j.2, j.3 ∙ sym (others e.number (apart e h)))
+
+  module _ (s : St) (r : Rule holds lasts s) (i n id t : ℕ) (v w : Doing P N) (d d' : Desk P) (homes' : List (maybe.Option (Option P))) (log' : List (Made N)) where
+    pub moved : get_elem? s.views id ≡ some v → v.spent ≡ false → w.spent ≡ false → Same v w
+        → ((u : ℕ) → u ≢ t → u < 67 → get_or (set s.words i n) (u + 1) 0 ≡ get_or s.words (u + 1) 0)
+        → length homes' ≡ length s.homes → ((u : ℕ) → u ≢ t → get_elem? homes' u ≡ get_elem? s.homes u)
+        → get_elem? r.desks t ≡ some d → ((m : ℕ) → d.holder ≡ Some m → m ≡ v.sight.number)
+        → ((u : ℕ) (p : P) → u ≢ t → Holds v.sight.held u p → Holds w.sight.held u p)
+        → ((u : ℕ) (p : P) → u ≢ t → Holds w.sight.held u p → Holds v.sight.held u p)
+        → ((u : ℕ) → u ≢ t → home {P = P} w.hand u ≡ home v.hand u)
+        → ((p : P) → Holds w.sight.held t p → (d' ≡ desk_of v.sight.number p) × (get_elem? homes' t ≡ some (home w.hand t)))
+        → ((k : ℕ) (after : List (Made N)) (x : P) → k ≢ v.sight.number → lasts k after t x d.part → lasts k after t x d'.part)
+        → Next r.log log' (set r.desks t d') v.sight.number (get_or (set s.words i n) 0 0) w
+        → Sits (set s.words i n) homes' (set s.views id w) t d'.part d'.holder
+        → Rule holds lasts record { words = set s.words i n; homes = homes'; views = set s.views id w }
+    moved at live live' same words long others desk alone keeps back hand mine lasting next sits = record {
+      total = r.total;
+      seat = r.seat;
+      log = log';
+      desks = set r.desks t d';
+      some_pass = r.some_pass;
+      words_are = length-set s.words i n ∙ r.words_are;
+      homes_are = long ∙ r.homes_are;
+      desks_are = length-set r.desks t d' ∙ r.desks_are;
+      clock = next.clock;
+      unborn = λ k big. next.others k (λ e. let l : v.sight.number < r.total = old.numbered in omega (arith, e)) ∙ r.unborn k big;
+      kept = next.kept;
+      each_desk = λ u x e. ⊎_elim
+          (λ (h : (u ≡ t) × (d' ≡ x)). subst (λ (y : ℕ × Desk P). Sits (set s.words i n) homes' (set s.views id w) y.0 y.1.part y.1.holder) (λ k. (sym h.0 k, h.1 k)) sits)
+          (λ (h : (u ≢ t) × (get_elem? r.desks u ≡ some x)). still u x.part h.0 (within_desks u x h.1) x.holder (r.each_desk u x h.1))
+          (at_set r.desks t u d' x e);
+      each_pass = λ k x e here. ⊎_elim
+          (λ (h : (k ≡ id) × (w ≡ x)). subst (λ (y : ℕ × Doing P N). Knows holds lasts r.total r.seat log' (set r.desks t d') homes' y.0 y.1) (λ l. (sym h.0 l, h.1 l)) ours)
+          (λ (h : (k ≢ id) × (get_elem? s.views k ≡ some x)). theirs k x h.0 h.1 here (r.each_pass k x h.1 here))
+          (at_set s.views id k w x e);
+    }
+      where
+        near : id < length s.views
+        near = within s.views id v at
+
+        within_desks : (u : ℕ) (x : Desk P) → get_elem? r.desks u ≡ some x → u < 67
+        within_desks u x e = subst (λ (l : ℕ). u < l) r.desks_are (within r.desks u x e)
+
+        still : (u : ℕ) (p : P) → u ≢ t → u < 67 → (o : Option ℕ) → Sits s.words s.homes s.views u p o → Sits (set s.words i n) homes' (set s.views id w) u p o
+        still u p apart small None h = (words u apart small ∙ h.0, others u apart ∙ h.1)
+        still u p apart small (Some m) h = (words u apart small ∙ h.0, holder_stays s.views id m u v w p near at live' same.number (keeps u p apart) h.1)
+
+        old : Knows holds lasts r.total r.seat r.log r.desks s.homes id v
+        old = r.each_pass id v at live
+
+        ours : Knows holds lasts r.total r.seat log' (set r.desks t d') homes' id w
+        ours = record {
+          numbered = subst (λ (m : ℕ). m < r.total) (sym same.number) old.numbered;
+          seated = ap r.seat same.number ∙ old.seated;
+          giving = λ some_given. let g = old.giving (λ e. some_given (same.given ∙ e)) in (same.given ∙ g.0, g.1);
+          joined = λ e h.
+              let h' = subst (λ (l : List (Ended N)). Among l e) same.ended h in
+              let g = joined_later s r log' v.sight.number id v next.others (λ e' h''. (old.joined e' h'').1) old e h' in (g.0, (λ f. g.1 (f ∙ same.number)), g.2, g.3);
+          holding = λ u p h. dite (ℕ_discrete u t)
+              (λ e. let g = mine p (subst (λ (z : ℕ). Holds w.sight.held z p) e h) in
+              (ap (get_elem? (set r.desks t d')) e ∙ set_here r.desks t d' (within r.desks t d desk) ∙ ap some g.0 ∙ ap (λ (m : ℕ). some (desk_of m p)) (sym same.number), ap (get_elem? homes') e ∙ g.1 ∙ ap (λ (z : ℕ). some (home w.hand z)) (sym e)))
+              (λ ne. let g = old.holding u p (back u p ne h) in
+              (set_else r.desks t u d' ne ∙ g.0 ∙ ap (λ (m : ℕ). some (desk_of m p)) (sym same.number), others u ne ∙ g.1 ∙ ap some (sym (hand u ne))));
+          made = next.made ∙ ap (λ (m : ℕ). own m log') (sym same.number);
+          seen = next.seen;
+          noted = λ m h y e. subst (λ (k : ℕ). lasts k m.after m.turn m.part y.part) (sym same.number) (next.noted m h y e);
+        }
+
+        theirs : (k : ℕ) (x : Doing P N) → k ≢ id → get_elem? s.views k ≡ some x → x.spent ≡ false → Knows holds lasts r.total r.seat r.log r.desks s.homes k x → Knows holds lasts r.total r.seat log' (set r.desks t d') homes' k x
+        theirs k x apart there here g =
+            let other : x.sight.number ≢ v.sight.number = λ e. apart (sym g.seated ∙ ap r.seat e ∙ old.seated) in record {
+              numbered = g.numbered;
+              seated = g.seated;
+              giving = g.giving;
+              joined = joined_later s r log' v.sight.number k x next.others (λ e h f. apart (sym (g.joined e h).0 ∙ ap r.seat f ∙ old.seated)) g;
+              holding = λ u p h. let was = g.holding u p h in dite (ℕ_discrete u t)
+                  (λ e. let is : d ≡ desk_of x.sight.number p = some-injective _ _ (sym desk ∙ ap (get_elem? r.desks) (sym e) ∙ was.0) in
+                  absurd (other (alone x.sight.number (ap (λ (y : Desk P). y.holder) is))))
+                  (λ ne. (set_else r.desks t u d' ne ∙ was.0, others u ne ∙ was.1));
+              made = g.made ∙ sym (next.others x.sight.number other);
+              seen = let a = g.seen in let b = next.longer in omega (arith, a, b);
+              noted = λ m h y e. ⊎_elim
+                  (λ (z : (m.turn ≡ t) × (d' ≡ y)). subst (λ (q : ℕ × Desk P). lasts x.sight.number m.after q.0 m.part q.1.part) (λ l. (sym z.0 l, z.1 l))
+                  (lasting x.sight.number m.after m.part other (subst (λ (q : ℕ). lasts x.sight.number m.after q m.part d.part) z.0 (g.noted m h d (ap (get_elem? r.desks) z.0 ∙ desk)))))
+                  (λ (z : (m.turn ≢ t) × (get_elem? r.desks m.turn ≡ some y)). g.noted m h y z.1)
+                  (at_set r.desks t m.turn d' y e);
+            }
+
+  module _ (s : St) (r : Rule holds lasts s) (i n id : ℕ) (v w : Doing P N) (log' : List (Made N)) where
+    -- no turn's word, slot or holder changes
+    pub stands : get_elem? s.views id ≡ some v → v.spent ≡ false → w.spent ≡ false → Same v w → w.sight.held ≡ v.sight.held → w.hand ≡ v.hand
+        → ((u : ℕ) → u < 67 → get_or (set s.words i n) (u + 1) 0 ≡ get_or s.words (u + 1) 0)
+        → Next r.log log' r.desks v.sight.number (get_or (set s.words i n) 0 0) w
+        → Rule holds lasts record { words = set s.words i n; homes = s.homes; views = set s.views id w }
+    stands at live live' same held hand words next = record {
+      total = r.total;
+      seat = r.seat;
+      log = log';
+      desks = r.desks;
+      some_pass = r.some_pass;
+      words_are = length-set s.words i n ∙ r.words_are;
+      homes_are = r.homes_are;
+      desks_are = r.desks_are;
+      clock = next.clock;
+      unborn = λ k big. next.others k (λ e. let l : v.sight.number < r.total = old.numbered in omega (arith, e)) ∙ r.unborn k big;
+      kept = next.kept;
+      each_desk = λ u x e. still u x.part (subst (λ (l : ℕ). u < l) r.desks_are (within r.desks u x e)) x.holder (r.each_desk u x e);
+      each_pass = λ k x e here. ⊎_elim
+          (λ (h : (k ≡ id) × (w ≡ x)). subst (λ (y : ℕ × Doing P N). Knows holds lasts r.total r.seat log' r.desks s.homes y.0 y.1) (λ l. (sym h.0 l, h.1 l)) ours)
+          (λ (h : (k ≢ id) × (get_elem? s.views k ≡ some x)). theirs k x h.0 (r.each_pass k x h.1 here))
+          (at_set s.views id k w x e);
+    }
+      where
+        still : (u : ℕ) (p : P) → u < 67 → (o : Option ℕ) → Sits s.words s.homes s.views u p o → Sits (set s.words i n) s.homes (set s.views id w) u p o
+        still u p small None h = (words u small ∙ h.0, h.1)
+        still u p small (Some m) h = (words u small ∙ h.0, holder_stays s.views id m u v w p (within s.views id v at) at live' same.number (subst (λ (l : List (ℕ × P)). Holds l u p) (sym held)) h.1)
+
+        old : Knows holds lasts r.total r.seat r.log r.desks s.homes id v
+        old = r.each_pass id v at live
+
+        ours : Knows holds lasts r.total r.seat log' r.desks s.homes id w
+        ours = record {
+          numbered = subst (λ (m : ℕ). m < r.total) (sym same.number) old.numbered;
+          seated = ap r.seat same.number ∙ old.seated;
+          giving = λ some_given. let g = old.giving (λ e. some_given (same.given ∙ e)) in (same.given ∙ g.0, g.1);
+          joined = λ e h.
+              let h' = subst (λ (l : List (Ended N)). Among l e) same.ended h in
+              let g = joined_later s r log' v.sight.number id v next.others (λ e' h''. (old.joined e' h'').1) old e h' in (g.0, (λ f. g.1 (f ∙ same.number)), g.2, g.3);
+          holding = λ u p h. let g = old.holding u p (subst (λ (l : List (ℕ × P)). Holds l u p) held h) in
+              (g.0 ∙ ap (λ (m : ℕ). some (desk_of m p)) (sym same.number), g.1 ∙ ap (λ (z : ℕ). some (home z u)) (sym hand));
+          made = next.made ∙ ap (λ (m : ℕ). own m log') (sym same.number);
+          seen = next.seen;
+          noted = λ m h y e. subst (λ (k : ℕ). lasts k m.after m.turn m.part y.part) (sym same.number) (next.noted m h y e);
+        }
+
+        theirs : (k : ℕ) (x : Doing P N) → k ≢ id → Knows holds lasts r.total r.seat r.log r.desks s.homes k x → Knows holds lasts r.total r.seat log' r.desks s.homes k x
+        theirs k x apart g =
+            let other : x.sight.number ≢ v.sight.number = λ e. apart (sym g.seated ∙ ap r.seat e ∙ old.seated) in record {
+              numbered = g.numbered;
+              seated = g.seated;
+              giving = g.giving;
+              joined = joined_later s r log' v.sight.number k x next.others (λ e h f. apart (sym (g.joined e h).0 ∙ ap r.seat f ∙ old.seated)) g;
+              holding = g.holding;
+              made = g.made ∙ sym (next.others x.sight.number other);
+              seen = let a = g.seen in let b = next.longer in omega (arith, a, b);
+              noted = g.noted;
+            }

@@ -1,0 +1,13 @@
+mod Between
+mod Clocks
+mod Closings
+mod Comings
+mod Counters
+mod Gathers
+mod Histories
+mod Keeps
+mod Lists
+mod Slots
+mod Takes
+mod Unloads
+mod Waits

@@ -1,0 +1,18 @@
+// `part_mut` has a file of its own: its clause names the row of `Held`, which the file that declares `Held` cannot import.
+ghost use Rattle.std.specs.Prelude.{◌≡◌};
+ghost use Rattle.std.specs.Borrow.{sem, Lends};
+ghost use Rattle.dk_turns.specs.contracts.seats.Held.{the_row};
+ghost use Rattle.dk_turns.specs.Seen.{with_part};
+
+use crate::seats::Held;
+use crate::shared::Shared;
+
+impl<S: Shared> Held<S> {
+    /// When the borrow ends, the held turn has what was written.
+    pub fn part_mut(&mut self) -> &mut S::Part
+        ensures* writes_back { sem 𝓛 (Lends (the_row S.row S.Part.row S.Note.row S.Shared) S.Part.row self.entry result (with_part self.old)) }
+        ensures value { result.now ≡ self.old.part }
+    {
+        &mut self.part
+    }
+}

@@ -1,0 +1,18 @@
+// The rule of the table that the turns lie in.
+use crate::shared::Shared;
+use crate::sight::Doing;
+use atomic_table::TableRule;
+use std::marker::PhantomData;
+
+pub struct Discipline<S> {
+    marker: PhantomData<S>,
+}
+
+impl<S: Shared> TableRule<Option<S::Part>, Doing<S::Part, S::Note>, ()> for Discipline<S> {
+    ghost use Rattle.std.specs.Prelude.{false};
+    ghost use Rattle.dk_turns.specs.Rule.{Rule, newcomer};
+
+    ghost holds = { λ _. Rule S.holds S.lasts };
+
+    ghost first = { λ _. record { spent = false; hand = 0; sight = newcomer 0 1 0 } };
+}
