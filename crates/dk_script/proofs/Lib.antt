@@ -1,0 +1,13 @@
+pub mod Closings
+pub mod Fronts
+pub mod Lists
+pub mod Pages
+pub mod PlainLines
+pub mod Progress
+pub mod Replies
+pub mod Rows
+pub mod Scripts
+pub mod Starts
+pub mod StepLemmas
+pub mod Utf8
+pub mod Values

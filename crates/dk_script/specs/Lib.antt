@@ -1,0 +1,16 @@
+pub mod Reads
+pub mod Words
+pub mod Grammar
+pub mod Asks
+pub mod Database
+pub mod Meaning
+pub mod Texts
+pub mod Leaves
+pub mod Stops
+pub mod Answers
+pub mod Script
+pub mod LastLine
+pub mod Steps
+pub mod Ready
+pub mod Ends
+pub mod Whole

@@ -1,0 +1,134 @@
+//! What a small script prints, told plainly: all lines first, then each in turn. It is slow, takes memory for the whole
+//! output, and is there to compare a run with.
+ghost use Rattle.std.specs.Prelude.{◌≡◌, ◌+◌, ◌^◌, ◌<◌, ◌≤◌, ◌++◌, true, false, Ok, Some, IfOk, OnOk};
+ghost use Rattle.std.specs.Str.Lines.{strip_carriage_return};
+ghost use Rattle.dk_io.specs.Lines.{told, told_lines};
+ghost use Rattle.dk_script.specs.Answers.{body_text};
+ghost use Rattle.dk_script.specs.Database.{present};
+ghost use Rattle.dk_script.specs.Script.{ask_in, is_good, ask_text, ask_after, script_output};
+ghost use Rattle.dk_script.specs.Texts.{rows_text};
+
+use crate::line::{MAX_LINE, ask_of};
+use crate::output::{put_head, put_present};
+use crate::run::reply;
+use crate::store::{Answer, Store};
+use dk_types::{Bytes, List, OutOfMemory, Row};
+use std::alloc::Global;
+
+/// A line without the carriage return at its end, none where it is passed over.
+fn told(line: Vec<u8>) -> Option<Bytes>
+    ensures { result ≡ told (strip_carriage_return line.items) }
+{
+    let mut line = line;
+    if let [.., b'\r'] = line.as_slice() {
+        line.pop();
+    }
+    match line.as_slice() {
+        [] => None,
+        [b'-', b'-', ..] => None,
+        _ => Some(List::from_vec(line)),
+    }
+}
+
+/// The lines of a script.
+fn lines_of(alloc: Global, script: &[u8]) -> Result<Vec<Option<Bytes>>, OutOfMemory>
+    ensures { IfOk result (λ lines. lines.items ≡ told_lines script.now) }
+{
+    let mut lines = Vec::new(alloc);
+    let mut begun = Vec::new(alloc);
+    for byte in script {
+        if *byte == b'\n' {
+            lines.push(told(begun))?;
+            begun = Vec::new(alloc);
+        } else {
+            begun.push(*byte)?;
+        }
+    }
+    if !begun.is_empty() {
+        lines.push(told(begun))?;
+    }
+    Ok(lines)
+}
+
+/// Puts the rows that are there.
+fn put_rows(out: &mut Vec<u8>, rows: &[Option<Row>]) -> Result<(), OutOfMemory>
+    ensures { OnOk result (out.new.items ≡ out.old.items ++ rows_text (present rows.now)) }
+{
+    for row in rows {
+        put_present(out, row)?;
+    }
+    Ok(())
+}
+
+/// Puts the rows of an answer, if it has rows.
+fn put_body(out: &mut Vec<u8>, store: &Store, answer: Answer) -> Result<(), OutOfMemory>
+    ensures { OnOk result (out.new.items ≡ out.old.items ++ body_text store.now answer) }
+{
+    match answer {
+        Answer::Rows { place } => put_rows(out, store.rows(place)),
+        _ => Ok(()),
+    }
+}
+
+/// Answers a line: false where it is outside the grammar.
+fn answer(
+    alloc: Global,
+    store: &mut Store,
+    out: &mut Vec<u8>,
+    line: &[u8],
+) -> Result<bool, OutOfMemory>
+    requires { store.old.commits + 1 < 2 ^ 64 }
+    ensures good { result ≡ Ok true → is_good (Some line.now) ≡ true }
+    ensures text { result ≡ Ok true → out.new.items ≡ out.old.items ++ ask_text store.old (ask_in (Some line.now)) }
+    ensures state { result ≡ Ok true → store.new ≡ ask_after store.old (ask_in (Some line.now)) }
+    ensures bad { result ≡ Ok false → is_good (Some line.now) ≡ false }
+    ensures same { result ≡ Ok false → out.new.items ≡ out.old.items }
+    ensures commits { OnOk result (store.new.commits ≤ store.old.commits + 1) }
+{
+    if line.len() > MAX_LINE {
+        return Ok(false);
+    }
+    let Some((session, text)) = ask_of(line) else {
+        return Ok(false);
+    };
+    let answer = reply(alloc, store, session, text)?;
+    put_head(out, store, session, answer)?;
+    put_body(out, store, answer)?;
+    Ok(true)
+}
+
+/// Answers a line, if it is not passed over: false where it is outside the grammar.
+fn answer_told(
+    alloc: Global,
+    store: &mut Store,
+    out: &mut Vec<u8>,
+    line: &Option<Bytes>,
+) -> Result<bool, OutOfMemory>
+    requires { store.old.commits + 1 < 2 ^ 64 }
+    ensures good { result ≡ Ok true → is_good line.now ≡ true }
+    ensures text { result ≡ Ok true → out.new.items ≡ out.old.items ++ ask_text store.old (ask_in line.now) }
+    ensures state { result ≡ Ok true → store.new ≡ ask_after store.old (ask_in line.now) }
+    ensures bad { result ≡ Ok false → is_good line.now ≡ false }
+    ensures same { result ≡ Ok false → out.new.items ≡ out.old.items }
+    ensures commits { OnOk result (store.new.commits ≤ store.old.commits + 1) }
+{
+    match line {
+        Some(line) => answer(alloc, store, out, line.as_slice()),
+        None => Ok(true),
+    }
+}
+
+/// What a script prints, up to its first line that is outside the grammar.
+pub fn plain_output(alloc: Global, script: &[u8]) -> Result<Vec<u8>, OutOfMemory>
+    ensures { IfOk result (λ out. out.items ≡ script_output script.now) }
+{
+    let lines = lines_of(alloc, script)?;
+    let mut store = Store::new(alloc);
+    let mut out = Vec::new(alloc);
+    for line in lines.as_slice() {
+        if !answer_told(alloc, &mut store, &mut out, line)? {
+            return Ok(out);
+        }
+    }
+    Ok(out)
+}

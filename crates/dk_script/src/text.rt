@@ -1,0 +1,135 @@
+//! The texts of the replies.
+ghost use Rattle.std.specs.Prelude.{◌≡◌, ◌++◌, decimal, codes, OnOk, OnErr};
+ghost use Rattle.std.specs.Fmt.{signed_decimal};
+ghost use Rattle.dk_types.specs.Texts.{damage_text};
+ghost use Rattle.dk_script.specs.Texts.{value_text, more_values, row_text, holder_text, refusal_text};
+
+use dk_types::{Damage, Holder, OutOfMemory, Refusal, Row, Value};
+use itoa::{Buffer, Integer};
+
+/// Puts bytes at the end.
+pub fn put(out: &mut Vec<u8>, bytes: &[u8]) -> Result<(), OutOfMemory>
+    ensures ok { OnOk result (out.new.items ≡ out.old.items ++ bytes.now) }
+    ensures err { OnErr result (out.new.items ≡ out.old.items) }
+{
+    out.extend_from_slice(bytes)
+}
+
+/// Puts a number at the end, in decimal.
+pub fn put_number<I: Integer>(out: &mut Vec<u8>, number: I) -> Result<(), OutOfMemory>
+    ensures ok { OnOk result (out.new.items ≡ out.old.items ++ I.text number) }
+    ensures err { OnErr result (out.new.items ≡ out.old.items) }
+{
+    let mut digits = Buffer::new();
+    out.extend_from_slice(digits.format(number).as_bytes())
+}
+
+/// Puts words and a number at the end.
+pub fn put_counted(out: &mut Vec<u8>, words: &[u8], number: u64) -> Result<(), OutOfMemory>
+    ensures ok { OnOk result (out.new.items ≡ out.old.items ++ (words.now ++ decimal number)) }
+{
+    put(out, words)?;
+    put_number(out, number)
+}
+
+fn put_value(out: &mut Vec<u8>, value: &Value) -> Result<(), OutOfMemory>
+    ensures ok { OnOk result (out.new.items ≡ out.old.items ++ value_text value.now) }
+{
+    match value {
+        Value::Null => Ok(()),
+        Value::Bool(true) => put(out, b"true"),
+        Value::Bool(false) => put(out, b"false"),
+        Value::Int(number) => put_number(out, *number),
+        Value::Big(number) => put_number(out, *number),
+        Value::Text(bytes) => put(out, bytes.as_slice()),
+        Value::Huge(number) => put_number(out, *number),
+    }
+}
+
+/// Puts values at the end, each behind a comma.
+fn put_more(out: &mut Vec<u8>, values: &[Value]) -> Result<(), OutOfMemory>
+    ensures ok { OnOk result (out.new.items ≡ out.old.items ++ more_values values.now) }
+{
+    for value in values {
+        put(out, b",")?;
+        put_value(out, value)?;
+    }
+    Ok(())
+}
+
+/// Puts a line of a result at the end.
+pub fn put_row(out: &mut Vec<u8>, row: &Row) -> Result<(), OutOfMemory>
+    ensures ok { OnOk result (out.new.items ≡ out.old.items ++ row_text row.now) }
+{
+    match row.as_slice() {
+        [] => put(out, b"\n"),
+        [first, more @ ..] => {
+            put_value(out, first)?;
+            put_more(out, more)?;
+            put(out, b"\n")
+        }
+    }
+}
+
+fn put_holder(out: &mut Vec<u8>, holder: Holder) -> Result<(), OutOfMemory>
+    ensures ok { OnOk result (out.new.items ≡ out.old.items ++ holder_text holder) }
+{
+    match holder {
+        Holder::Transaction(number) => put_counted(out, b" transaction ", number),
+        Holder::Commit(number) => put_counted(out, b" commit ", number),
+    }
+}
+
+fn put_damage(out: &mut Vec<u8>, damage: Damage) -> Result<(), OutOfMemory>
+    ensures ok { OnOk result (out.new.items ≡ out.old.items ++ damage_text damage) }
+{
+    let text = damage.to_string(*out.allocator())?;
+    put(out, text.as_bytes())
+}
+
+/// Puts words, a number, and a second number behind a blank at the end.
+fn put_pair(out: &mut Vec<u8>, words: &[u8], first: u64, second: u64) -> Result<(), OutOfMemory>
+    ensures ok { OnOk result (out.new.items ≡ out.old.items ++ (words.now ++ decimal first ++ codes " " ++ decimal second)) }
+{
+    put_counted(out, words, first)?;
+    put_counted(out, b" ", second)
+}
+
+fn put_conflict(out: &mut Vec<u8>, name: &[u8], row: u64, by: Holder) -> Result<(), OutOfMemory>
+    ensures ok { OnOk result (out.new.items ≡ out.old.items ++ (codes "conflict " ++ name.now ++ codes " " ++ decimal row ++ holder_text by)) }
+{
+    put(out, b"conflict ")?;
+    put(out, name)?;
+    put_counted(out, b" ", row)?;
+    put_holder(out, by)
+}
+
+/// Puts the text of a refusal at the end, where that is the name of the table that it is about.
+pub fn put_refusal(out: &mut Vec<u8>, name: &[u8], refusal: Refusal) -> Result<(), OutOfMemory>
+    ensures ok { OnOk result (out.new.items ≡ out.old.items ++ refusal_text name.now refusal) }
+{
+    match refusal {
+        Refusal::Syntax { at } => put_counted(out, b"syntax error at ", at),
+        Refusal::NoTable { at } => put_counted(out, b"no table at ", at),
+        Refusal::NoColumn { at } => put_counted(out, b"no column at ", at),
+        Refusal::TypeMismatch { at } => put_counted(out, b"type mismatch at ", at),
+        Refusal::SameColumn { at } => put_counted(out, b"same column at ", at),
+        Refusal::NotGrouped { at } => put_counted(out, b"not grouped at ", at),
+        Refusal::TableExists { at } => put_counted(out, b"table exists at ", at),
+        Refusal::TooManyTables => put(out, b"too many tables"),
+        Refusal::OutOfRange { row } => put_counted(out, b"out of range row ", row),
+        Refusal::BadField { row, field } => put_pair(out, b"bad field ", row, u64::from(field)),
+        Refusal::TooLarge { bytes, rows } => put_pair(out, b"too large ", bytes, rows),
+        Refusal::Conflict { row, by, .. } => put_conflict(out, name, row, by),
+        Refusal::Aborted => put(out, b"aborted"),
+        Refusal::InTransaction => put(out, b"in transaction"),
+        Refusal::NoTransaction => put(out, b"no transaction"),
+        Refusal::Stopped { first } => put_counted(out, b"stopped ", first),
+        Refusal::DiskFault { stops: true } => put(out, b"disk fault stopped"),
+        Refusal::DiskFault { stops: false } => put(out, b"disk fault"),
+        Refusal::Damaged(damage) => put_damage(out, damage),
+        Refusal::Exhausted(_) => put(out, b"exhausted"),
+        Refusal::OutOfMemory => put(out, b"out of memory"),
+        Refusal::Unsupported => put(out, b"unsupported"),
+    }
+}
