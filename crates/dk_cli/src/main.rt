@@ -5,15 +5,14 @@
 //! `dk_script`, and proves nothing of its own.
 #![tactic(auto)]
 
-use std::alloc::AllocError;
-use std::env::{self, Args};
-use std::io::{self, ErrorKind};
-use std::process::ExitCode;
-
 use dk_device::MemoryDisk;
 use dk_io::{NoPause, StdSink, StdSource};
 use dk_script::serve::serve;
 use dk_types::Status;
+use std::alloc::AllocError;
+use std::env::{self, Args};
+use std::io::{self, ErrorKind};
+use std::process::ExitCode;
 
 /// Carries out a command on a database in memory.
 fn command(rt: &HostRuntime, words: &[String]) -> Status {
