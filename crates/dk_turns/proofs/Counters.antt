@@ -8,12 +8,12 @@ use Rattle.dk_turns.specs.Desks.{Desk, free_desk, desk_of, Holds, without, Among
 use Rattle.dk_turns.specs.History.{Makes, PutsBack}
 use Rattle.dk_turns.specs.Rule.{Wider, newcomer}
 use Rattle.dk_turns.specs.Seen.{Seen, Shown, Waited, MayMake, MayPutBack, given_by, HasNumber, AllIdle}
-use Rattle.dk_turns.specs.Steps.{taking, making, giving}
+use Rattle.dk_turns.specs.Steps.{taking, releasing, making, giving}
 use Rattle.dk_turns.specs.Stays.{total, AddsUp, NeverFalls, Stays, IsReady}
 use Rattle.atomic_table.specs.Seated.{TableId}
 use mathlib.Core.Logic.{dite}
 use native.Mathlib.Decide.{ℕ_discrete}
-use Rattle.dk_turns.proofs.Lists.{among_append, among_right}
+use Rattle.dk_turns.proofs.Lists.{among_append, among_right, chosen}
 use Rattle.dk_turns.proofs.Gathers.{among_left, given_by-snoc}
 
 total_set : (l : List (Desk ℕ)) (t : ℕ) (d d' : Desk ℕ) → get_elem? l t ≡ some d → total (set l t d') + d.part ≡ total l + d'.part
@@ -71,6 +71,16 @@ stays_self x held = record { turns = refl; held = held; number = refl; given = r
 pub stays_more : {P N : Type 0} (x y z : Seen P N) → Stays x y → Stays y z → Stays x z
 stays_more x y z a b = record { turns = b.turns ∙ a.turns; held = b.held; number = b.number ∙ a.number; given = b.given ∙ a.given }
 
+-- a turn was taken and released
+pub stays_back : {P N : Type 0} (x y z : Seen P N) (t : ℕ) (held : Shown P) → x.sight.held ≡ [] → y.turns ≡ x.turns → Waited t held.part x.sight y.sight → held.turn ≡ t → z.turns ≡ y.turns → z.sight ≡ releasing held.turn held.part y.sight → Stays x z
+stays_back {P} {N} x y z t held idle turns waited is turns' back =
+    let taken : y.sight.held ≡ (t, held.part) ∷ [] = ap (λ (s : Sight P N). s.held) waited.1 ∙ ap (λ (l : List (ℕ × P)). (t, held.part) ∷ l) idle in record {
+      turns = turns' ∙ turns;
+      held = ap (λ (s : Sight P N). s.held) back ∙ ap (without held.turn) taken ∙ chosen t held.turn [] ((t, held.part) ∷ []) (sym is);
+      number = ap (λ (s : Sight P N). s.number) back ∙ ap (λ (s : Sight P N). s.number) waited.1;
+      given = ap (λ (s : Sight P N). s.given) back ∙ ap (λ (s : Sight P N). s.given) waited.1;
+    }
+
 pub starts_even : (N : Type 0) (parts : List ℕ) (n : ℕ) → parts ≡ replicate n 0 → (desks : List (Desk ℕ)) → Wider (map free_desk parts) desks → AddsUp {N = N} [] desks
 starts_even N parts n e desks w = same (map free_desk parts) desks w.long (λ t d at. let g = w.same t d at in (g.0, g.1, g.2)) ∙ ap (λ l. total (map free_desk l)) e ∙ none n
   where
@@ -118,6 +128,14 @@ module _ {P N : Type 0} where
           (λ (z : x ≡ q). (y, inl refl, subst (λ (w : Seen P N). Stays w y) z (h zero x (omega arith))))
           (λ (z : Among xs q). let p = went xs ys (omega arith) (λ i d l. h (suc i) d (omega arith)) q z in (p.0, inr p.1, p.2))
           a
+
+  pub ready_pair : (turns : TableId) (x y x' y' : Seen P N) → Stays x x' → Stays y y' → IsReady turns (y ∷ x ∷ []) → IsReady turns (y' ∷ x' ∷ [])
+  ready_pair turns x y x' y' a b ready = ready_again turns (y ∷ x ∷ []) (y' ∷ x' ∷ []) refl each ready
+    where
+      each : (i : ℕ) (d : Seen P N) → i < 2 → Stays (get_or (y ∷ x ∷ []) i d) (get_or (y' ∷ x' ∷ []) i d)
+      each zero d l = b
+      each (suc zero) d l = a
+      each (suc (suc i)) d l = absurd (omega arith)
 
   pub among_at : (xs : List (Seen P N)) (i : ℕ) (p : Seen P N) → i < length xs → p ≡ get_or xs i p → Among xs p
   among_at [] i p h e = absurd (omega arith)
@@ -176,6 +194,10 @@ module _ {P N : Type 0} where
               (λ ne. let q = b.numbers n (omega arith) (omega (arith, all, h)) in (q.0, among_left ps (first ∷ []) q.0 q.1, q.2)),
         );
       }
+
+  pub build_pair : (turns : TableId) (first first' p : Seen P N) → first.turns ≡ turns → first.sight ≡ newcomer 0 1 0 → first'.turns ≡ first.turns → first'.sight ≡ giving first.sight → p.turns ≡ turns → p.sight ≡ newcomer first.sight.given 0 first.sight.seen → IsReady turns (p ∷ first' ∷ [])
+  build_pair turns first first' p t e t' e' pt pe =
+      build_end turns first' (p ∷ []) (p ∷ first' ∷ []) (build_more turns first first' p [] (p ∷ []) (build_first turns first t e) t' e' pt pe refl) refl
 
 take_whole : {A : Type 0} (ys zs : List A) → take (length ys) (ys ++ zs) ≡ ys
 take_whole [] [] = refl

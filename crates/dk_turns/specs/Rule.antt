@@ -24,6 +24,7 @@ pub record Holder {P N : Type 0} (views : List (Doing P N)) (n t : ℕ) (p : P) 
   pub is : view.sight.number ≡ n
   pub holds : Holds view.sight.held t p
 
+-- what a turn's word and slot are: free, with its part in the slot, or taken, and one pass holds it
 module _ {P N : Type 0} (words : List ℕ) (homes : List (maybe.Option (Option P))) (views : List (Doing P N)) (t : ℕ) (p : P) where
   abbrev pub Sits : Option ℕ → Type 0
   Sits None = (slice_index words (t + 1) ≡ 0) × (get_elem? homes t ≡ some (some (Some p)))
@@ -37,15 +38,21 @@ pub record Wider {P : Type 0} (desks wider : List (Desk P)) : Type 0 where
 module _ {P N : Type 0} (holds : List (Made N) → List (Desk P) → Type 0) (lasts : ℕ → List (Made N) → ℕ → P → P → Type 0) where
   -- What holds of a pass at the seat id. `total` numbers were given, and `seat` says which seat has a number's turns and events
   pub record Knows (total : ℕ) (seat : ℕ → ℕ) (log : List (Made N)) (desks : List (Desk P)) (homes : List (maybe.Option (Option P))) (id : ℕ) (v : Doing P N) : Type 0 where
+    -- its number was given, and no other pass has it
     pub numbered : v.sight.number < total
     pub seated : seat v.sight.number ≡ id
     pub giving : v.sight.given ≢ 0 → (v.sight.given ≡ total) × (seat 0 ≡ id)
+    -- the passes that were joined to it have the rest of the history under their numbers
     pub joined : (e : Ended N) → Among v.sight.ended e → (seat e.number ≡ id) × (e.number ≢ v.sight.number) × (e.number < total) × (e.events ≡ own e.number log)
+    -- the desk of each turn that it holds names it, so that no other pass holds it, and the slot is empty or in its hand
     pub holding : (t : ℕ) (p : P) → Holds v.sight.held t p → (get_elem? desks t ≡ some (desk_of v.sight.number p)) × (get_elem? homes t ≡ some (home v.hand t))
+    -- its events are those under its number, each with its place
     pub made : v.sight.events ≡ own v.sight.number log
     pub seen : v.sight.seen ≤ length log
+    -- each lasting fact that it has noted holds
     pub noted : (m : Noted P N) → Among v.sight.noted m → (d : Desk P) → get_elem? desks m.turn ≡ some d → lasts v.sight.number m.after m.turn m.part d.part
 
+  -- `log` has all events by place, and `desks` what each turn's part shows and who holds it
   pub record Rule (s : State (Option P) (Doing P N)) : Type 0 where
     pub total : ℕ
     pub seat : ℕ → ℕ
@@ -55,9 +62,13 @@ module _ {P N : Type 0} (holds : List (Made N) → List (Desk P) → Type 0) (la
     pub words_are : length s.words ≡ 135
     pub homes_are : length s.homes ≡ 67
     pub desks_are : length desks ≡ 67
+    -- the clock is the number of events
     pub clock : slice_index s.words 0 ≡ length log % 2 ^ 64
+    -- a number that was not given has no event
     pub unborn : (n : ℕ) → total ≤ n → own n log ≡ []
+    -- the fact holds of all events and all parts, whoever takes the free turns
     pub kept : (wider : List (Desk P)) → Wider desks wider → holds log wider
+    -- a turn's word says "taken" exactly where one pass holds it; its slot is empty only then
     pub each_desk : (t : ℕ) (d : Desk P) → get_elem? desks t ≡ some d → Sits s.words s.homes s.views t d.part d.holder
     pub each_pass : (id : ℕ) (v : Doing P N) → get_elem? s.views id ≡ some v → v.spent ≡ false → Knows total seat log desks s.homes id v
 

@@ -65,6 +65,37 @@ fn count_on<R: Wait>(
     }
 }
 
+// Whether the pass can take the turn now. If it can, it releases it at once.
+fn is_free(turns: &Turns<Counters>, pass: &mut Pass<Counters>, turn: u32) -> bool
+    requires { (pass.old.turns ≡ turns.now) × (pass.old.sight.held ≡ []) × (turn < 67) }
+    ensures { Stays pass.old pass.new }
+{
+    match turns.try_take(pass, turn) {
+        Some(held) => {
+            turns.release(pass, held);
+            true
+        }
+        None => false,
+    }
+}
+
+// Whether the second pass can take turn 5 and turn 6 while the first holds turn 5, and turn 5 after its release.
+fn beside<R: Wait>(
+    rt: &R,
+    turns: &Turns<Counters>,
+    first: &mut Pass<Counters>,
+    second: &mut Pass<Counters>,
+) -> (bool, bool, bool)
+    requires { IsReady turns.now (second.old ∷ first.old ∷ []) }
+    ensures { IsReady turns.now (second.new ∷ first.new ∷ []) }
+{
+    let held = turns.take(rt, first, 5);
+    let five = is_free(turns, second, 5);
+    let six = is_free(turns, second, 6);
+    turns.release(first, held);
+    (five, six, is_free(turns, second, 5))
+}
+
 // Appends the pass. True if there is no memory for it.
 fn lacks(all: &mut Vec<Pass<Counters>>, pass: Pass<Counters>) -> bool
     ensures { result ≡ false → all.new.items ≡ all.old.items ++ pass ∷ [] }
@@ -130,6 +161,17 @@ fn run<R: Threads + Wait + Sync>(
     turns.close(passes)
 }
 
+// Both passes, for `close`.
+fn both(alloc: Global, first: Pass<Counters>, second: Pass<Counters>) -> Option<Vec<Pass<Counters>>>
+    ensures { IfSome result (λ ps. ps.items ≡ second ∷ first ∷ []) }
+{
+    let mut all = Vec::new(alloc);
+    if lacks(&mut all, second) || lacks(&mut all, first) {
+        return None;
+    }
+    Some(all)
+}
+
 fn opened(alloc: Global) -> Option<(Turns<Counters>, Pass<Counters>)>
     ensures { IfSome result (λ made. (made.1.turns ≡ made.0) × (made.1.sight ≡ newcomer 0 1 0)) }
 {
@@ -140,6 +182,30 @@ fn opened(alloc: Global) -> Option<(Turns<Counters>, Pass<Counters>)>
         Ok(made) => Some(made),
         Err(_) => None,
     }
+}
+
+// Turns with two passes.
+fn paired(alloc: Global) -> Option<(Turns<Counters>, Pass<Counters>, Pass<Counters>)>
+    ensures { IfSome result (λ made. IsReady made.0 (made.2 ∷ made.1 ∷ [])) }
+{
+    let (turns, mut first) = opened(alloc)?;
+    let second = turns.split(&mut first);
+    Some((turns, first, second))
+}
+
+#[test]
+fn held_turn_is_refused(rt: HostRuntime) -> Result<(), Fail> {
+    let Some((turns, mut first, mut second)) = paired(rt.alloc()) else {
+        panic!(rt; "no memory")
+    };
+    let answers = beside(&rt, &turns, &mut first, &mut second);
+    assert_eq!(rt; answers, (false, true, true));
+    let Some(passes) = both(rt.alloc(), first, second) else {
+        panic!(rt; "no memory")
+    };
+    let parts = turns.close(passes);
+    assert!(rt; parts.iter().all(|part| *part == 0));
+    Ok(())
 }
 
 #[test]
