@@ -1,5 +1,5 @@
 -- Steps that keep the rule, whatever they tell.
-use Rattle.std.proofs.Common.{◌≡◌, ◌≢◌, ℕ, zero, suc, ◌+◌, ◌%◌, ◌^◌, ◌<◌, ◌≤◌, false, List, [], ◌∷◌, length, get_or, set, sym, ap, ◌∙◌, subst, ⊎_elim, arith, length-set}
+use Rattle.std.proofs.Common.{◌≡◌, ◌≢◌, ℕ, zero, suc, ◌+◌, ◌%◌, ◌^◌, ◌<◌, ◌≤◌, false, List, [], ◌∷◌, length, get_or, set, refl, sym, ap, ◌∙◌, subst, ⊎_elim, arith, length-set}
 use mathlib.Core.Option as maybe
 use mathlib.Core.Option.{none, some, some-injective, some-ne-none}
 use mathlib.Core.Logic.{dite}
@@ -20,6 +20,11 @@ pub within : {A : Type 0} (l : List A) (i : ℕ) (a : A) → get_elem? l i ≡ s
 within [] i a e = absurd (some-ne-none a (sym e))
 within (x ∷ xs) zero a e = omega arith
 within (x ∷ xs) (suc i) a e = let h = within xs i a e in omega (arith, h)
+
+pub there : {A : Type 0} (l : List A) (i : ℕ) → i < length l → (a : A) × (get_elem? l i ≡ some a)
+there [] i h = absurd (omega arith)
+there (x ∷ xs) zero h = (x, refl)
+there (x ∷ xs) (suc i) h = there xs i (omega arith)
 
 -- the two views have one number, and gave and joined the same
 pub record Same {P N : Type 0} (v w : Doing P N) : Type 0 where

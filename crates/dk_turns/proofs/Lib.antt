@@ -7,7 +7,9 @@ mod Gathers
 mod Histories
 mod Keeps
 mod Lists
+mod Places
 mod Slots
+mod Taken
 mod Takes
 mod Unloads
 mod Waits

@@ -1,5 +1,5 @@
 -- Each step on a turn, or on the clock, keeps the rule.
-use Rattle.std.proofs.Common.{◌≡◌, ◌≢◌, ◌⊎◌, ℕ, zero, suc, ◌+◌, ◌%◌, ◌^◌, ◌<◌, ◌≤◌, eqb, false, List, [], ◌∷◌, ◌++◌, length, map, get_or, set, refl, sym, ap, ◌∙◌, subst, inl, inr, ⊎_elim, arith, length-set, length-append, le_refl, get_or-set_other, get_or-set_same}
+use Rattle.std.proofs.Common.{◌≡◌, ◌≢◌, ◌⊎◌, ℕ, suc, ◌+◌, ◌%◌, ◌^◌, ◌<◌, ◌≤◌, eqb, false, List, [], ◌∷◌, ◌++◌, length, map, get_or, set, refl, sym, ap, ◌∙◌, subst, inl, inr, ⊎_elim, arith, length-set, length-append, le_refl, get_or-set_other, get_or-set_same}
 use Rattle.std.proofs.lemmas.List.{set-get_or}
 use Rattle.std.proofs.Math.Nat.{mod-add-mod}
 use mathlib.Core.Option as maybe
@@ -18,7 +18,7 @@ use Rattle.dk_turns.specs.Rule.{Sits, Wider, Rule}
 use Rattle.dk_turns.specs.Steps.{Mine, taking, refusing, releasing, looking, later, made_under, made_free, making, making_free, with_hand, Tried, Settled, Fetched, Gave, Stayed, Looked, Ticked, TickedFree}
 use Rattle.dk_turns.proofs.Lists.{home_here, home_else, holds_without, without_holds, among_append, among_map, first_is, same_value}
 use Rattle.dk_turns.proofs.Histories.{own_mine, own_other, set_back, wider_self, wider_taken, wider_back}
-use Rattle.dk_turns.proofs.Keeps.{Next, moved, stands, within}
+use Rattle.dk_turns.proofs.Keeps.{Next, moved, stands, within, there}
 
 module _ (P N : Type 0) (holds : List (Made N) → List (Desk P) → Type 0) (lasts : ℕ → List (Made N) → ℕ → P → P → Type 0) where
   abbrev St : Type 0
@@ -29,15 +29,10 @@ module _ (P N : Type 0) (holds : List (Made N) → List (Desk P) → Type 0) (la
   Goes s i n id m told = (w : Doing P N) × (a : Act (Option P)) × Valid s.homes m.1 a × Rule holds lasts (stepped s i n id m.1 w a) × told (w, carried_after m.1 a)
 
   -- the desk of a turn
-  at_desk : (s : St) (r : Rule holds lasts s) (t : ℕ) → t < 67 → (d : Desk P) × (get_elem? r.desks t ≡ some d)
+  pub at_desk : (s : St) (r : Rule holds lasts s) (t : ℕ) → t < 67 → (d : Desk P) × (get_elem? r.desks t ≡ some d)
   at_desk s r t small = there r.desks t (subst (λ (l : ℕ). t < l) (sym r.desks_are) small)
-    where
-      there : (l : List (Desk P)) (i : ℕ) → i < length l → (d : Desk P) × (get_elem? l i ≡ some d)
-      there [] i h = absurd (omega arith)
-      there (x ∷ xs) zero h = (x, refl)
-      there (x ∷ xs) (suc i) h = there xs i (omega arith)
 
-  free : (words : List ℕ) (homes : List (maybe.Option (Option P))) (views : List (Doing P N)) (t : ℕ) (p : P) (o : Option ℕ) → get_or words (t + 1) 0 ≡ 0 → Sits words homes views t p o → (o ≡ None) × (get_elem? homes t ≡ some (some (Some p)))
+  pub free : (words : List ℕ) (homes : List (maybe.Option (Option P))) (views : List (Doing P N)) (t : ℕ) (p : P) (o : Option ℕ) → get_or words (t + 1) 0 ≡ 0 → Sits words homes views t p o → (o ≡ None) × (get_elem? homes t ≡ some (some (Some p)))
   free words homes views t p None e h = (refl, h.1)
   free words homes views t p (Some n) e h = absurd (omega (arith, e, h.0))
 

@@ -72,6 +72,22 @@ module _ {P N : Type 0} (holds : List (Made N) → List (Desk P) → Type 0) (la
     pub each_desk : (t : ℕ) (d : Desk P) → get_elem? desks t ≡ some d → Sits s.words s.homes s.views t d.part d.holder
     pub each_pass : (id : ℕ) (v : Doing P N) → get_elem? s.views id ≡ some v → v.spent ≡ false → Knows total seat log desks s.homes id v
 
+-- the pass at the seat holds the turn
+pub record HeldAt {P N : Type 0} (s : State (Option P) (Doing P N)) (t id : ℕ) : Type 0 where
+  pub view : Doing P N
+  pub part : P
+  pub at : get_elem? s.views id ≡ some view
+  pub here : view.spent ≡ false
+  pub holds : Holds view.sight.held t part
+
+-- the turn's word says "taken" exactly where one pass holds it, and its slot is empty only then
+pub record TakenByOne {P N : Type 0} (s : State (Option P) (Doing P N)) (t : ℕ) : Type 0 where
+  pub word : (slice_index s.words (t + 1) ≡ 0) ⊎ (slice_index s.words (t + 1) ≡ 1)
+  pub held : slice_index s.words (t + 1) ≡ 1 → (id : ℕ) × HeldAt s t id
+  pub taken : (id : ℕ) → HeldAt s t id → slice_index s.words (t + 1) ≡ 1
+  pub one : (id id' : ℕ) → HeldAt s t id → HeldAt s t id' → id ≡ id'
+  pub full : slice_index s.words (t + 1) ≡ 0 → (p : P) × (get_elem? s.homes t ≡ some (some (Some p)))
+
 -- the pass is the last one: every number that was given is its own, or that of one that was joined to it
 pub record Last {P N : Type 0} (v : Doing P N) : Type 0 where
   pub live : v.spent ≡ false

@@ -1,5 +1,5 @@
 -- A pass and a held turn as contracts see them.
-use Rattle.std.specs.Prelude.{◌≡◌, ◌⊎◌, ℕ, ◌+◌, ◌<◌, ◌≤◌, List, [], ◌∷◌, map}
+use Rattle.std.specs.Prelude.{◌≡◌, ◌⊎◌, ℕ, ◌+◌, ◌<◌, ◌≤◌, ⊤, List, [], ◌∷◌, map}
 use Rattle.atomic_table.specs.Seated.{TableId}
 use Rattle.dk_turns.specs.declared.sight.Made.{Made}
 use Rattle.dk_turns.specs.declared.sight.Ended.{Ended}
@@ -67,3 +67,15 @@ pub record History {P N : Type 0} (holds : List (Made N) → List (Desk P) → T
   pub kept : holds log (map free_desk parts)
   pub mine : (p : Seen P N) → Among passes p → p.sight.events ≡ own p.sight.number log
   pub no_others : (n : ℕ) → given_by passes ≤ n → own n log ≡ []
+
+-- the places rise
+abbrev pub Rises : {N : Type 0} → List (ℕ × Made N) → Type 0
+Rises {N} [] = ⊤
+Rises {N} (x ∷ xs) = ((y : ℕ × Made N) → Among xs y → x.0 < y.0) × Rises xs
+
+-- The places of the events of these passes are the numbers below n, each once
+pub record EachOnce {P N : Type 0} (passes : List (Seen P N)) (n : ℕ) : Type 0 where
+  pub below : (p : Seen P N) → Among passes p → (k : ℕ) (e : Made N) → Among p.sight.events (k, e) → k < n
+  pub all : (k : ℕ) → k < n → (p : Seen P N) × Among passes p × ((e : Made N) × Among p.sight.events (k, e))
+  pub once : (p q : Seen P N) → Among passes p → Among passes q → (k : ℕ) (e f : Made N) → Among p.sight.events (k, e) → Among q.sight.events (k, f) → (p.sight.number ≡ q.sight.number) × (e ≡ f)
+  pub rise : (p : Seen P N) → Among passes p → Rises p.sight.events

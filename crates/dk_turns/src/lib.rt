@@ -5,9 +5,10 @@
 //! part that it changes is held.
 //!
 //! Promised, for every `Shared`: the fact that it states, on all events by place and on all parts, holds between any two
-//! steps; each place belongs to one event of one pass, above all places that the pass had seen; `try_take` answers `None`
-//! exactly where the turn's word said "taken" at its one step; a lasting fact that a pass noted still holds of the part
-//! when the pass takes the turn again; and `close` gives back parts that meet the fact, with the one history.
+//! steps; each place belongs to one event of one pass, above all places that the pass had seen; a turn's word says "taken"
+//! exactly where one pass holds it (`taken_by_one`); `try_take` answers `None` exactly where the word said "taken" at its
+//! one step; a lasting fact that a pass noted still holds of the part when the pass takes the turn again; and `close` gives
+//! back parts that meet the fact, with the one history, whose places are the numbers below the number of events, each once.
 //! Nothing is promised of waiting, fairness or deadlock.
 //!
 //! It stands on the words and slots of `atomic_table`, and takes memory only in `new`.
@@ -25,6 +26,7 @@ mod sight;
 mod taking;
 mod turns;
 
+pub use rule::taken_by_one;
 pub use seats::{Held, Pass};
 pub use shared::Shared;
 pub use sight::{Doing, Ended, Made, Noted, Sight};

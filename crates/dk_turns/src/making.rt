@@ -5,7 +5,7 @@ ghost use mathlib.Core.Option.{some};
 ghost use lib.ListN.{get_elem?};
 ghost use Rattle.dk_turns.specs.Desks.{Desk, free_desk};
 ghost use Rattle.dk_turns.specs.Rule.{Last, Wider, newcomer};
-ghost use Rattle.dk_turns.specs.Seen.{AllIdle, History, IsWhole, Joined};
+ghost use Rattle.dk_turns.specs.Seen.{AllIdle, EachOnce, History, IsWhole, Joined};
 ghost use Rattle.dk_turns.specs.Steps.{giving};
 
 use crate::keeping::{Spare, empty, fill};
@@ -60,7 +60,8 @@ impl<S: Shared> Turns<S> {
     pub fn close(self, passes: Vec<Pass<S>>) -> Vec<S::Part>
         requires idle { AllIdle self passes.items }
         requires whole { IsWhole passes.items }
-        ensures { History S.holds passes.items result.items }
+        ensures history { History S.holds passes.items result.items }
+        ensures places { (events : ℕ) × EachOnce passes.items events }
     {
         let Turns { table, spare } = self;
         let keeper = gather(&table.shared, passes);

@@ -1,4 +1,4 @@
-use Rattle.std.proofs.Common.{◌≡◌, ◌<◌, ℕ, rules, sym, ◌∙◌, arith}
+use Rattle.std.proofs.Common.{rules}
 use Rattle.dk_turns.proofs.Counters.{may_count, may_put_taken, may_put_made}
 use Rattle.dk_turns.proofs.tests.count.Goals as goal
 

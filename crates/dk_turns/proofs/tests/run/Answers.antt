@@ -1,6 +1,6 @@
-use Rattle.std.proofs.Common.{◌≡◌, length, rules, subst, sym, ap, ◌∙◌, arith}
+use Rattle.std.proofs.Common.{◌≡◌, length, subst, sym, ap, arith}
 use Rattle.dk_turns.specs.Seen.{AllIdle, IsWhole}
-use Rattle.dk_turns.specs.Stays.{IsReady, Stays}
+use Rattle.dk_turns.specs.Stays.{IsReady}
 use Rattle.dk_turns.proofs.Counters.{ready_again, whole_again}
 use Rattle.dk_turns.proofs.tests.run.Goals as goal
 
