@@ -1,5 +1,6 @@
 pub mod Closings
 pub mod Fronts
+pub mod Grammars
 pub mod Lists
 pub mod Pages
 pub mod PlainLines
@@ -7,6 +8,13 @@ pub mod Progress
 pub mod Replies
 pub mod Rows
 pub mod Scripts
+pub mod Spans
+pub mod TokensFound
+pub mod TokensAgain
+pub mod RulesFound
+pub mod RulesAgain
+pub mod AsksRead
+pub mod ScriptLines
 pub mod Starts
 pub mod StepLemmas
 pub mod Utf8

@@ -1,13 +1,10 @@
 -- What is printed for lines, as far as they were read.
-use Rattle.std.proofs.Common.{◌≡◌, ℕ, ◌+◌, Bool, true, false, List, [], ◌∷◌, ◌++◌, length, Option, Some, None, cond, refl, sym, ap, subst, ◌∙◌, append_assoc, add_assoc, arith}
-use Rattle.std.proofs.lemmas.List.{append-nil}
+use Rattle.std.proofs.Common.{◌≡◌, ℕ, ◌+◌, Bool, true, false, List, [], ◌∷◌, ◌++◌, length, Option, Some, None, cond, refl, sym, ap, ◌∙◌, append_assoc, arith}
 use Rattle.std.proofs.lemmas.List.Sums.{take_while-cons}
-use Rattle.std.proofs.KnownBytes.{Appends-nil, Appends-trans}
 use Rattle.std.specs.Prelude.{not, filter_map, take_while, ◌&&◌}
-use Rattle.std.specs.List.{list_all, position_from, cons_option}
-use Rattle.std.specs.Io.KnownBytes.{Appends}
+use Rattle.std.specs.List.{list_all, cons_option}
 use Rattle.dk_script.specs.Database.{Database}
-use Rattle.dk_script.specs.Script.{Line, ask_in, is_good, short_ask, ask_text, ask_after, replies, asks_of, output, first_bad_from}
+use Rattle.dk_script.specs.Script.{Line, ask_in, is_good, ask_text, ask_after, replies, output, first_bad_from}
 
 -- the database after what lines ask
 abbrev pub after : Database → List Line → Database

@@ -1,5 +1,5 @@
 -- Texts that are UTF-8, and those that are not.
-use Rattle.std.proofs.Common.{◌≡◌, Bool, true, false, List, ℕ, Option, Some, None, cond, sym, ap, refl}
+use Rattle.std.proofs.Common.{◌≡◌, Bool, true, false, List, ℕ, Some, None, cond, sym, ap, refl}
 use Rattle.std.specs.Prelude.{IsUtf8}
 use Rattle.std.specs.Str.{is_utf8}
 use Rattle.std.proofs.lemmas.Str.{IsUtf8-from_is_utf8, is_utf8-from_IsUtf8}

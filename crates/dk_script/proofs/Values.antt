@@ -1,5 +1,5 @@
 -- Numbers that digits spell.
-use Rattle.std.proofs.Common.{◌≡◌, ℕ, ◌≤◌, ◌<◌, ◌+◌, ◌-◌, ◌*◌, ◌^◌, ◌/◌, suc, List, [], ◌∷◌, length, drop, get_or, ◌∙◌, Option, Some, None, sym, ap, cond, false, nat_lt, arith}
+use Rattle.std.proofs.Common.{◌≡◌, ℕ, ◌≤◌, ◌<◌, ◌+◌, ◌-◌, ◌*◌, ◌^◌, ◌/◌, suc, List, [], ◌∷◌, length, drop, get_or, ◌∙◌, Some, None, sym, ap, cond, false, nat_lt, arith}
 use Rattle.std.proofs.Math.Seq.{drop-cons}
 use Rattle.std.proofs.lemmas.Bool.{le-ltb}
 use Rattle.dk_script.specs.Words.{value_from, value_in}

@@ -1,5 +1,5 @@
 -- The database: tables of rows, and how many commits there were.
-use Rattle.std.specs.Prelude.{ℕ, List, [], ◌++◌, map, Option, Some, None, position, option_map, unwrap_or, bytes_eq, slice_get, filter_map}
+use Rattle.std.specs.Prelude.{ℕ, List, [], Option, position, option_map, unwrap_or, bytes_eq, slice_get, filter_map}
 use Rattle.dk_types.specs.declared.value.Value.{Value}
 use Rattle.dk_script.specs.declared.store.Table.{Table}
 

@@ -1,5 +1,5 @@
 -- What a sink has at the end of a run.
-use Rattle.std.specs.Prelude.{◌≡◌, ℕ, ◌≤◌, List, length, take, Option}
+use Rattle.std.specs.Prelude.{ℕ, ◌≤◌, List, length, take, Option}
 use Rattle.dk_script.specs.Leaves.{Closes}
 
 -- the sink took a front of this text, and then the last line, or a front of it where the sink failed

@@ -2,6 +2,9 @@ pub mod Reads
 pub mod Words
 pub mod Grammar
 pub mod Asks
+pub mod GrammarTokens
+pub mod GrammarStatements
+pub mod GrammarLines
 pub mod Database
 pub mod Meaning
 pub mod Texts

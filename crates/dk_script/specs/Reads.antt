@@ -1,5 +1,5 @@
 -- What stands at the front of a text, and the rest of the text.
-use Rattle.std.specs.Prelude.{◌≡◌, ℕ, zero, suc, List, [], ◌∷◌, ◌++◌, length, Option, Some, None, option_and_then, Result, Ok, Err}
+use Rattle.std.specs.Prelude.{◌≡◌, ℕ, List, ◌++◌, Option, Some, None, option_and_then, Result, Ok, Err}
 use Rattle.dk_script.specs.declared.words.ParseError.{ParseError}
 use Rattle.dk_script.specs.declared.words.ParseError.TheVariants.{Syntax, OutOfMemory}
 

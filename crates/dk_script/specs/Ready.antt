@@ -1,5 +1,5 @@
 -- What a run keeps between its lines.
-use Rattle.std.specs.Prelude.{◌≡◌, ℕ, ◌+◌, ◌≤◌, ◌^◌, List, []}
+use Rattle.std.specs.Prelude.{◌≡◌, ℕ, ◌≤◌, ◌^◌, List, []}
 use Rattle.dk_io.specs.Reader.{Reading}
 use Rattle.dk_script.specs.Database.{Database}
 

@@ -1,5 +1,5 @@
 -- What a script prints: its lines up to the first that is outside the grammar, each statement's reply in its order.
-use Rattle.std.specs.Prelude.{ℕ, ◌+◌, Bool, true, false, not, bytes_eq, codes, is_some, List, [], ◌∷◌, ◌++◌, length, ◌==◌, nat_le, take_while, filter_map, Option, Some, None, if◌then◌else◌}
+use Rattle.std.specs.Prelude.{ℕ, Bool, true, false, not, bytes_eq, codes, is_some, List, [], ◌∷◌, ◌++◌, length, ◌==◌, nat_le, take_while, filter_map, Option, Some, None, if◌then◌else◌}
 use Rattle.std.specs.List.{position_from}
 use Rattle.dk_types.specs.declared.reply.Reply.{Reply}
 use Rattle.dk_types.specs.declared.statement.Statement.{Statement}

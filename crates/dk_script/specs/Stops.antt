@@ -1,7 +1,7 @@
 -- Which statuses a step of a run ends with.
 use Rattle.std.specs.Prelude.{⊤, Result, Ok, Err}
 use Rattle.dk_types.specs.declared.status.Status.{Status}
-use Rattle.dk_types.specs.declared.status.Status.TheVariants.{Done, Usage, BadLine, ReadFault, WriteFault, DiskFault, NotADatabase, VersionUnknown, Damaged, OutOfMemory, ScriptTooLong}
+use Rattle.dk_types.specs.declared.status.Status.TheVariants.{Done, Usage, BadLine, ReadFault, WriteFault, OutOfMemory, ScriptTooLong}
 
 -- while a reply goes out, only the sink and memory can stop a run
 abbrev pub IsOutputStop : {T : Type 0} → Result T Status → Type 0

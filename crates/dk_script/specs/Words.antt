@@ -1,5 +1,5 @@
 -- Blanks, words, numbers and signs, as they stand at the front of a text.
-use Rattle.std.specs.Prelude.{ℕ, ◌+◌, ◌-◌, ◌*◌, ◌^◌, Bool, ◌&&◌, ◌||◌, not, List, [], ◌∷◌, length, map, take, drop, ◌==◌, nat_lt, nat_le, bytes_eq, Option, Some, None, if◌then◌else◌}
+use Rattle.std.specs.Prelude.{ℕ, ◌+◌, ◌-◌, ◌*◌, ◌^◌, Bool, ◌&&◌, ◌||◌, not, List, [], ◌∷◌, map, take, drop, ◌==◌, nat_lt, nat_le, bytes_eq, Option, Some, None, if◌then◌else◌}
 use Rattle.std.specs.List.{prefix_len, list_any}
 use Rattle.std.specs.Char.{to_ascii_lowercase}
 use Rattle.dk_types.specs.Names.{is_name}

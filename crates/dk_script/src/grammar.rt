@@ -1,7 +1,8 @@
 //! The grammar of the statements.
-ghost use Rattle.std.specs.Prelude.{◌≡◌, ◌<◌, ◌≤◌, length, IfOk};
+ghost use Rattle.std.specs.Prelude.{◌≡◌, ◌<◌, ◌≤◌, length, Some, IfOk};
 ghost use Rattle.dk_script.specs.Reads.{Reader, Gives, with_front};
 ghost use Rattle.dk_script.specs.Grammar.{more_at, list_at, positive_at, negative_at, literal_at, tuple_at, column_at, ended, create_at, insert_at, select_at, statement_of};
+ghost use Rattle.dk_script.specs.GrammarStatements.{IsStatementText};
 
 use crate::words::{ParseError, keyword, mark, mark_after, name, number, skip_blanks, word};
 use dk_types::{ColType, Column, List, MAX_COLUMNS, Row, Statement, Value};
@@ -156,9 +157,9 @@ fn select(alloc: Global, text: &[u8]) -> Result<Statement, ParseError>
     ended(Statement::Select { table }, rest)
 }
 
-/// The statement that the whole text is.
+/// The statement that a first word and what stands behind it are.
 #[tactic(auto, unfolding(crate::specs::Grammar::statement_of))]
-pub fn parse(alloc: Global, text: &[u8]) -> Result<Statement, ParseError>
+fn read_statement(alloc: Global, text: &[u8]) -> Result<Statement, ParseError>
     ensures { Gives (λ x. x) result (statement_of text.now) }
 {
     let (word, rest) = word(alloc, text)?;
@@ -168,4 +169,15 @@ pub fn parse(alloc: Global, text: &[u8]) -> Result<Statement, ParseError>
         b"select" => select(alloc, rest),
         _ => Err(ParseError::Syntax),
     }
+}
+
+/// The statement that the whole text is.
+#[tactic(auto, using(crate::proofs::Grammars::found_statement, crate::proofs::Grammars::only_statement))]
+pub fn parse(alloc: Global, text: &[u8]) -> Result<Statement, ParseError>
+    // What is read is in the grammar, and what is in the grammar is read unless memory runs out.
+    ensures found { IfOk result (λ statement. IsStatementText text.now statement) }
+    ensures only { (statement : _) → IsStatementText text.now statement → Gives (λ x. x) result (Some statement) }
+    ensures exact { Gives (λ x. x) result (statement_of text.now) }
+{
+    read_statement(alloc, text)
 }

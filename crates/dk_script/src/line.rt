@@ -1,6 +1,7 @@
 //! What a line of a script asks.
-ghost use Rattle.std.specs.Prelude.{◌≡◌, option_map};
+ghost use Rattle.std.specs.Prelude.{◌≡◌, ℕ, List, Some, IfSome, option_map};
 ghost use Rattle.dk_script.specs.Asks.{session_at, text_in, utf8_text, ask_of};
+ghost use Rattle.dk_script.specs.GrammarLines.{IsAsk};
 
 /// How many bytes a line may have.
 pub const MAX_LINE: usize = 16_777_216;
@@ -47,12 +48,22 @@ fn utf8_text(text: &[u8]) -> Option<&[u8]>
     }
 }
 
-/// The session that a line asks, and the text of its statement; none where the line is outside the script's grammar.
-/// The line's length is tested where it is read.
-pub fn ask_of(line: &[u8]) -> Option<(u32, &[u8])>
+/// The number at the front, and the text behind it.
+fn read_ask(line: &[u8]) -> Option<(u32, &[u8])>
     ensures { option_map (λ x. (x.0, x.1.now)) result ≡ ask_of line.now }
 {
     let (session, rest) = session_at(line)?;
     let text = utf8_text(text_in(rest)?)?;
     Some((session, text))
+}
+
+/// The session that a line asks, and the text of its statement; none where the line is outside the script's grammar.
+/// The line's length is tested where it is read.
+pub fn ask_of(line: &[u8]) -> Option<(u32, &[u8])>
+    // What is read is in the grammar, and what is in the grammar is read.
+    ensures found { IfSome result (λ x. IsAsk line.now x.0 x.1.now) }
+    ensures only { (session : ℕ) (text : List ℕ) → IsAsk line.now session text → option_map {U = ℕ × List ℕ} (λ x. (x.0, x.1.now)) result ≡ Some (session, text) }
+    ensures exact { option_map (λ x. (x.0, x.1.now)) result ≡ ask_of line.now }
+{
+    read_ask(line)
 }

@@ -5,6 +5,7 @@ ghost use Rattle.std.specs.Str.Lines.{strip_carriage_return};
 ghost use Rattle.dk_io.specs.Lines.{told, told_lines};
 ghost use Rattle.dk_script.specs.Answers.{body_text};
 ghost use Rattle.dk_script.specs.Database.{present};
+ghost use Rattle.dk_script.specs.GrammarLines.{AreLines};
 ghost use Rattle.dk_script.specs.Script.{ask_in, is_good, ask_text, ask_after, script_output};
 ghost use Rattle.dk_script.specs.Texts.{rows_text};
 
@@ -30,8 +31,8 @@ fn told(line: Vec<u8>) -> Option<Bytes>
     }
 }
 
-/// The lines of a script.
-fn lines_of(alloc: Global, script: &[u8]) -> Result<Vec<Option<Bytes>>, OutOfMemory>
+/// The lines of a script, a byte at a time.
+fn read_lines(alloc: Global, script: &[u8]) -> Result<Vec<Option<Bytes>>, OutOfMemory>
     ensures { IfOk result (λ lines. lines.items ≡ told_lines script.now) }
 {
     let mut lines = Vec::new(alloc);
@@ -48,6 +49,16 @@ fn lines_of(alloc: Global, script: &[u8]) -> Result<Vec<Option<Bytes>>, OutOfMem
         lines.push(told(begun))?;
     }
     Ok(lines)
+}
+
+/// The lines of a script, none for one that is passed over.
+pub fn lines_of(alloc: Global, script: &[u8]) -> Result<Vec<Option<Bytes>>, OutOfMemory>
+    // What is read are the lines of the grammar, and it has no others.
+    ensures found { IfOk result (λ read. AreLines script.now read.items) }
+    ensures only { (lines : _) → AreLines script.now lines → IfOk result (λ read. read.items ≡ lines) }
+    ensures exact { IfOk result (λ read. read.items ≡ told_lines script.now) }
+{
+    read_lines(alloc, script)
 }
 
 /// Puts the rows that are there.

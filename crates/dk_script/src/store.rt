@@ -50,6 +50,7 @@ impl Model for Store {
 impl Store {
     ghost use Rattle.dk_script.specs.Meaning.{step, create, insert_at, select_at, reply_of};
 
+    /// No tables, and no commit so far.
     pub fn new(alloc: Global) -> Store
         ensures { result ≡ record { tables = []; commits = 0 } }
     {

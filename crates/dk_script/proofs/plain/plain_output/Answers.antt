@@ -1,5 +1,5 @@
 -- A line was answered, or the run ends at a bad one.
-use Rattle.std.proofs.Common.{◌≡◌, Ok, ap, arith}
+use Rattle.std.proofs.Common.{Ok, ap, arith}
 use Rattle.dk_script.proofs.PlainLines.{line_answered}
 use Rattle.dk_script.proofs.plain.plain_output.Goals as goal
 

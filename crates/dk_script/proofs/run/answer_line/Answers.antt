@@ -9,5 +9,5 @@ pub returns-in-Ok-clause-front : goal.returns-in-Ok-clause-front
 returns-in-Ok-clause-front g c =
     on_err_weaker c.tell.result
     (λ f. front_line c.args.script.now.store c.reply.new.store (g.K.Sink.taken c.args.sink.now) (g.K.Sink.taken c.tell.new.sink) c.args.script.now.reader.line c.in-Some.session c.in-Some.text.now _
-    c.requires.short (sym (c.in-Some.ensures ∙ ap ask_of c.line.ensures)) c.in-Ok.ensures.answer f)
+    c.requires.short (sym (c.in-Some.ensures.exact ∙ ap ask_of c.line.ensures)) c.in-Ok.ensures.answer f)
     c.tell.ensures.err
