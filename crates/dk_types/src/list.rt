@@ -119,6 +119,12 @@ impl<T: TryCopy> TryCopy for Option<T> {
     }
 }
 
+impl<A: TryCopy, B: TryCopy> TryCopy for (A, B) {
+    fn copy(&self) -> Result<(A, B), OutOfMemory> {
+        Ok((self.0.copy()?, self.1.copy()?))
+    }
+}
+
 impl TryCopy for u8 {
     fn copy(&self) -> Result<u8, OutOfMemory> {
         Ok(*self)
