@@ -31,8 +31,9 @@ rows_after part rows = clear_rows part.deletes (put_rows part.updates rows) ++ m
 -- a part changes its table, if there is one
 abbrev pub apply_part : TableNet → List Table → List Table
 apply_part part tables = elim (slice_get tables part.table) [
-    None ↦ tables
-  | Some table ↦ slice_set tables part.table (record table { rows = rows_after part table.rows }) ]
+  | None ↦ tables
+  | Some table ↦ slice_set tables part.table (record table { rows = rows_after part table.rows })
+]
 
 abbrev pub apply_net : List TableNet → List Table → List Table
 apply_net [] tables = tables

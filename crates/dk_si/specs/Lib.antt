@@ -7,3 +7,4 @@ pub mod Held
 pub mod Steps
 pub mod Exchanges
 pub mod Legal
+pub mod Laws

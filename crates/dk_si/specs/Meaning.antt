@@ -2,6 +2,8 @@
 -- alone looks into a statement; what they use of it stands in Laws.
 use Rattle.std.specs.Prelude.{ℕ, ◌+◌, Bool, true, false, ◌&&◌, not, is_none, is_some, List, [], ◌∷◌, length, map, ◌==◌, nat_lt, bytes_eq, position, Option, Some, None, slice_get, slice_set, if◌then◌else◌}
 use Rattle.std.specs.List.{list_all, list_any}
+use lib.Pointwise.{pointwise}
+use Rattle.std.specs.Ordering.{int_eq}
 use Rattle.dk_types.specs.declared.value.Value.{Value}
 use Rattle.dk_types.specs.declared.value.Value.TheVariants as value
 use Rattle.dk_types.specs.declared.value.ColType.{ColType}
@@ -25,8 +27,26 @@ abbrev pub unbuilt : Meaning
 unbuilt = Refused Unsupported
 
 -- and so is a text outside the grammar
-abbrev pub text_refusal : ℕ → Refusal
-text_refusal at = Unsupported
+abbrev pub is_text_refusal : ℕ → Refusal → Bool
+is_text_refusal at Unsupported = true
+is_text_refusal at other = false
+
+-- two refusals of a statement by its meaning are the same
+abbrev pub is_same_refusal : Refusal → Refusal → Bool
+is_same_refusal Unsupported Unsupported = true
+is_same_refusal refusal other = false
+
+abbrev pub same_value : Value → Value → Bool
+same_value value.Null value.Null = true
+same_value (value.Bool a) (value.Bool b) = if a then b else not b
+same_value (value.Int a) (value.Int b) = int_eq a b
+same_value (value.Big a) (value.Big b) = int_eq a b
+same_value (value.Text a) (value.Text b) = bytes_eq a b
+same_value (value.Huge a) (value.Huge b) = int_eq a b
+same_value a b = false
+
+abbrev pub same_rows : List (List Value) → List (List Value) → Bool
+same_rows rows others = pointwise (pointwise same_value) rows others
 
 abbrev pub is_big : Value → Bool
 is_big value.Null = false
@@ -60,9 +80,6 @@ insert tuples place table =
     if fits table.schema tuples
     then Change (length tuples) (record { table = place; updates = []; deletes = []; rows = tuples })
     else unbuilt
-
-abbrev pub select : ℕ → Table → Meaning
-select place table = Rows (present table.rows)
 
 -- the rows that are there, with their ids
 abbrev pub found_from : ℕ → List (Option (List Value)) → List (ℕ × List Value)
@@ -108,21 +125,35 @@ abbrev pub delete : ℕ → Table → Meaning
 delete place table =
     Change (length (found table.rows)) (record { table = place; updates = []; deletes = map (λ row. row.0) (found table.rows); rows = [] })
 
--- what a statement does in the table of that name
-abbrev pub at_place : (ℕ → Table → Meaning) → List Table → Option ℕ → Meaning
-at_place act tables None = unbuilt
-at_place act tables (Some place) = elim (slice_get tables place) [ None ↦ unbuilt | Some table ↦ if nat_lt place MAX_TABLES then act place table else unbuilt ]
+-- what a statement does in its table, which has that place
+abbrev pub in_place : Statement → ℕ → Table → Meaning
+in_place (ask.Insert name tuples) place table = insert tuples place table
+in_place (ask.Select name) place table = Rows (present table.rows)
+in_place (ask.Update name sets) place table = update sets place table
+in_place (ask.Delete name) place table = delete place table
+in_place (ask.Create name columns) place table = Nothing
+in_place ask.Begin place table = Nothing
+in_place ask.Commit place table = Nothing
+in_place ask.Rollback place table = Nothing
+in_place ask.Checkpoint place table = Nothing
 
-abbrev pub in_table : List ℕ → (ℕ → Table → Meaning) → List Table → Meaning
-in_table name act tables = at_place act tables (place_of name tables)
+-- a table has one of the first 64 places
+abbrev pub at_place : Statement → List Table → Option ℕ → Meaning
+at_place statement tables None = unbuilt
+at_place statement tables (Some place) =
+    if nat_lt place MAX_TABLES then elim (slice_get tables place) [ None ↦ unbuilt | Some table ↦ in_place statement place table ] else unbuilt
+
+-- what a statement does in the table of that name
+abbrev pub in_table : List ℕ → Statement → List Table → Meaning
+in_table name statement tables = at_place statement tables (place_of name tables)
 
 -- the meaning of a statement on a database
 abbrev pub meaning : List Table → Statement → Meaning
 meaning tables (ask.Create name columns) = create tables name columns
-meaning tables (ask.Insert name tuples) = in_table name (insert tuples) tables
-meaning tables (ask.Select name) = in_table name select tables
-meaning tables (ask.Update name sets) = in_table name (update sets) tables
-meaning tables (ask.Delete name) = in_table name delete tables
+meaning tables (ask.Insert name tuples) = in_table name (ask.Insert name tuples) tables
+meaning tables (ask.Select name) = in_table name (ask.Select name) tables
+meaning tables (ask.Update name sets) = in_table name (ask.Update name sets) tables
+meaning tables (ask.Delete name) = in_table name (ask.Delete name) tables
 meaning tables ask.Begin = Nothing
 meaning tables ask.Commit = Nothing
 meaning tables ask.Rollback = Nothing

@@ -1,5 +1,5 @@
 -- How a statement's changes of the view join those that its transaction made before.
-use Rattle.std.specs.Prelude.{ℕ, ◌+◌, ◌-◌, Bool, ◌&&◌, ◌||◌, not, List, [], ◌∷◌, ◌++◌, map, length, Option, Some, None, ◌==◌, nat_lt, if◌then◌else◌, slice_get}
+use Rattle.std.specs.Prelude.{ℕ, ◌-◌, Bool, ◌&&◌, ◌||◌, not, List, [], ◌∷◌, ◌++◌, map, sum, length, Option, Some, None, ◌==◌, nat_lt, if◌then◌else◌, slice_get}
 use Rattle.std.specs.List.{filter, list_any}
 use Rattle.dk_types.specs.declared.value.Value.{Value}
 use Rattle.dk_types.specs.declared.net.TableNet.{TableNet}
@@ -13,6 +13,11 @@ put_by key item [] = item ∷ []
 put_by key item (first ∷ items) =
     if nat_lt (key item) (key first) then item ∷ first ∷ items
     else (if key item == key first then item ∷ items else first ∷ put_by key item items)
+
+-- a list behind an item that may wait for its place in it
+abbrev pub placed : {T : Type 0} → (T → ℕ) → Option T → List T → List T
+placed key None items = items
+placed key (Some item) items = put_by key item items
 
 abbrev pub put_all : {T : Type 0} → (T → ℕ) → List T → List T → List T
 put_all key [] items = items
@@ -53,10 +58,11 @@ further_deletes count part change = put_all (λ id. id) (committed_ids count cha
 -- a part with a statement's change, in a table of so many committed rows
 abbrev pub further_part : ℕ → TableNet → TableNet → TableNet
 further_part count part change = record {
-    table = change.table;
-    updates = further_updates count part change;
-    deletes = further_deletes count part change;
-    rows = further_rows count part change }
+  table = change.table;
+  updates = further_updates count part change;
+  deletes = further_deletes count part change;
+  rows = further_rows count part change;
+}
 
 -- what a net has of a table
 abbrev pub part_of : List TableNet → ℕ → TableNet
@@ -88,5 +94,4 @@ net_has net table row = list_any (λ part. part.table == table && part_has part 
 
 -- the new rows of a net, over all tables
 abbrev pub new_rows : List TableNet → ℕ
-new_rows [] = 0
-new_rows (part ∷ parts) = length part.rows + new_rows parts
+new_rows net = sum (map (λ part. length part.rows) net)

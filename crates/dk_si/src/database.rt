@@ -1,7 +1,8 @@
 //! The database as a list of tables, and what commits do to it.
-ghost use Rattle.std.specs.Prelude.{◌≡◌, ◌++◌, map, length, Some, IfOk, OnOk};
-ghost use Rattle.dk_si.specs.Database.{place_of, put_rows, clear_rows, rows_after, apply_part, apply_net, apply, after, view};
+ghost use Rattle.std.specs.Prelude.{◌≡◌, ◌<◌, ◌++◌, map, take, length, Some, IfOk, IfSome, OnOk};
+ghost use Rattle.dk_si.specs.Database.{place_of, put_rows, clear_rows, rows_after, apply_part, apply_net, apply, after_all, after, view};
 
+use crate::slices::first;
 use dk_types::{
     Bytes, Commit, List, OptionRows, OutOfMemory, Row, Schema, TableNet, TryCopy, Updates,
 };
@@ -11,7 +12,7 @@ use std::alloc::Global;
 pub const MAX_TABLES: usize = 64;
 
 /// A table. A row's id is its place, and the place of a deleted row stays, empty.
-#[derive(Debug, Drop, PartialEq)]
+#[derive(Debug, Drop)]
 pub struct Table {
     pub name: Bytes,
     pub schema: Schema,
@@ -136,21 +137,27 @@ pub fn apply(alloc: Global, tables: &mut Vec<Table>, commit: &Commit) -> Result<
     }
 }
 
+/// The database after all of these commits.
+fn after_all(alloc: Global, opened: &[Table], commits: &[Commit]) -> Result<Vec<Table>, OutOfMemory>
+    ensures { IfOk result (λ tables. tables.items ≡ after_all commits.now opened.now) }
+{
+    let mut tables = copied(alloc, opened)?;
+    for commit in commits {
+        apply(alloc, &mut tables, commit)?;
+    }
+    Ok(tables)
+}
+
 /// The database after the first n commits.
 pub fn after(
     alloc: Global,
     opened: &[Table],
     commits: &[Commit],
-    n: usize,
+    n: u64,
 ) -> Result<Vec<Table>, OutOfMemory>
-    requires { n ≤ length commits.now }
     ensures { IfOk result (λ tables. tables.items ≡ after opened.now commits.now n) }
 {
-    let mut tables = copied(alloc, opened)?;
-    for commit in &commits[..n] {
-        apply(alloc, &mut tables, commit)?;
-    }
-    Ok(tables)
+    after_all(alloc, opened, first(commits, n))
 }
 
 fn copied(alloc: Global, tables: &[Table]) -> Result<Vec<Table>, OutOfMemory>
@@ -168,10 +175,9 @@ pub fn view(
     alloc: Global,
     opened: &[Table],
     commits: &[Commit],
-    start: usize,
+    start: u64,
     net: &[TableNet],
 ) -> Result<Vec<Table>, OutOfMemory>
-    requires { start ≤ length commits.now }
     ensures { IfOk result (λ tables. tables.items ≡ view opened.now commits.now start net.now) }
 {
     let mut tables = after(alloc, opened, commits, start)?;

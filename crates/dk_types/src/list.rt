@@ -1,4 +1,4 @@
-ghost use Rattle.std.specs.Prelude.{◌≡◌, ◌<◌, [], ◌∷◌, ◌++◌, ◌↔◌, length, map, slice_get, IsTrue, IfOk, OnOk, OnErr};
+ghost use Rattle.std.specs.Prelude.{◌≡◌, ◌<◌, [], ◌∷◌, ◌++◌, ◌↔◌, length, map, slice_get, slice_set, IsTrue, IfOk, OnOk, OnErr};
 
 pub use std::alloc::AllocError as OutOfMemory;
 use std::alloc::Global;
@@ -82,6 +82,14 @@ impl<T: Drop> List<T> {
         ensures err { OnErr result (self.new ≡ self.old) }
     {
         self.items.push(item).map_err(|_| OutOfMemory)
+    }
+
+    /// Puts an item in the place of the i-th, which is dropped.
+    pub fn set(&mut self, i: usize, item: T)
+        requires { i < length self.old }
+        ensures { self.new ≡ slice_set self.old i item }
+    {
+        self.items[i] = item;
     }
 
     /// Moves the items of another list to the end. Without memory this list stays, and the other is dropped.

@@ -49,10 +49,11 @@ fn lists_grow_and_are_copied(rt: HostRuntime) -> Result<(), Fail> {
     let mut list = bytes(alloc, b"ab")?;
     list.push(b'c')?;
     list.append(bytes(alloc, b"de")?)?;
+    list.set(0, b'A');
     assert_eq!(rt; list.len(), 5);
     assert!(rt; !list.is_empty());
     assert_eq!(rt; *list.get(2), b'c');
-    assert_eq!(rt; list.as_slice(), b"abcde".as_slice());
+    assert_eq!(rt; list.as_slice(), b"Abcde".as_slice());
     assert_eq!(rt; list.copy()?, list);
     let deleted: List<Option<Bytes>> = List::from_vec(vec![in alloc; None, Some(list)]?);
     assert_eq!(rt; deleted.copy()?.len(), 2);
