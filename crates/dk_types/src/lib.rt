@@ -8,6 +8,7 @@
 pub mod column;
 pub mod damage;
 pub mod list;
+pub mod net;
 pub mod reply;
 pub mod statement;
 pub mod status;
@@ -18,6 +19,7 @@ pub mod value;
 pub use column::{Column, Columns, MAX_COLUMNS, MAX_NAME, Schema, SchemaError, is_name};
 pub use damage::{Damage, Part};
 pub use list::{List, OutOfMemory, TryCopy};
+pub use net::{Commit, Net, TableNet, Updates};
 pub use reply::{Exhausted, Holder, Receipt, Refusal, Reply};
 pub use statement::{Set, Sets, Statement};
 pub use status::Status;

@@ -1,4 +1,4 @@
-ghost use Rattle.std.specs.Prelude.{◌≡◌, ◌<◌, [], ◌∷◌, ◌++◌, ◌↔◌, length, map, slice_get, IsTrue, IfOk, OnOk, OnErr};
+ghost use Rattle.std.specs.Prelude.{◌≡◌, ◌<◌, [], ◌∷◌, ◌++◌, ◌↔◌, length, map, slice_get, slice_set, IsTrue, IfOk, OnOk, OnErr};
 
 pub use std::alloc::AllocError as OutOfMemory;
 use std::alloc::Global;
@@ -84,6 +84,14 @@ impl<T: Drop> List<T> {
         self.items.push(item).map_err(|_| OutOfMemory)
     }
 
+    /// Puts an item in the place of the i-th, which is dropped.
+    pub fn set(&mut self, i: usize, item: T)
+        requires { i < length self.old }
+        ensures { self.new ≡ slice_set self.old i item }
+    {
+        self.items[i] = item;
+    }
+
     /// Moves the items of another list to the end. Without memory this list stays, and the other is dropped.
     pub fn append(&mut self, more: List<T>) -> Result<(), OutOfMemory>
         ensures ok { OnOk result (self.new ≡ self.old ++ more) }
@@ -116,6 +124,12 @@ impl<T: TryCopy> TryCopy for Option<T> {
             None => Ok(None),
             Some(item) => Ok(Some(item.copy()?)),
         }
+    }
+}
+
+impl<A: TryCopy, B: TryCopy> TryCopy for (A, B) {
+    fn copy(&self) -> Result<(A, B), OutOfMemory> {
+        Ok((self.0.copy()?, self.1.copy()?))
     }
 }
 

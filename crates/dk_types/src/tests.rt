@@ -1,6 +1,9 @@
+ghost use Rattle.std.specs.Prelude.{◌≡◌, true, length, IfOk};
+ghost use Rattle.dk_types.specs.Nets.{changes};
+
 use crate::{
-    Bytes, ColType, Column, Columns, Damage, List, OutOfMemory, Part, Receipt, Reply, Rows, Schema,
-    SchemaError, Set, Statement, Status, TryCopy, Value, is_name,
+    Bytes, ColType, Column, Columns, Commit, Damage, List, Net, OutOfMemory, Part, Receipt, Reply,
+    Rows, Schema, SchemaError, Set, Statement, Status, TableNet, TryCopy, Value, is_name,
 };
 use std::alloc::Global;
 use std::test::Fail;
@@ -46,10 +49,11 @@ fn lists_grow_and_are_copied(rt: HostRuntime) -> Result<(), Fail> {
     let mut list = bytes(alloc, b"ab")?;
     list.push(b'c')?;
     list.append(bytes(alloc, b"de")?)?;
+    list.set(0, b'A');
     assert_eq!(rt; list.len(), 5);
     assert!(rt; !list.is_empty());
     assert_eq!(rt; *list.get(2), b'c');
-    assert_eq!(rt; list.as_slice(), b"abcde".as_slice());
+    assert_eq!(rt; list.as_slice(), b"Abcde".as_slice());
     assert_eq!(rt; list.copy()?, list);
     let deleted: List<Option<Bytes>> = List::from_vec(vec![in alloc; None, Some(list)]?);
     assert_eq!(rt; deleted.copy()?.len(), 2);
@@ -136,5 +140,45 @@ fn damages_and_statuses_tell_their_numbers(rt: HostRuntime) -> Result<(), Fail> 
     assert_eq!(rt; text.as_str(), "damaged log record at 24");
     assert_eq!(rt; Status::Damaged(sum).code(), 9);
     assert_eq!(rt; Status::BadLine { line: 7 }.code(), 3);
+    Ok(())
+}
+
+fn one_part(alloc: Global, table: u32) -> Result<TableNet, OutOfMemory>
+    ensures changes { IfOk result (λ part. changes part ≡ true) }
+    ensures table { IfOk result (λ part. part.table ≡ table) }
+{
+    let mut deletes = List::new(alloc);
+    deletes.push(7)?;
+    Ok(TableNet {
+        table,
+        updates: List::new(alloc),
+        deletes,
+        rows: one_row(alloc)?,
+    })
+}
+
+fn two_parts(alloc: Global) -> Result<Net, OutOfMemory>
+    ensures { IfOk result (λ net. length net ≡ 2) }
+{
+    let mut net = Net::new(alloc);
+    net.push(one_part(alloc, 3)?)?;
+    net.push(one_part(alloc, 4)?)?;
+    Ok(net)
+}
+
+#[test]
+fn nets_grow_and_are_copied(rt: HostRuntime) -> Result<(), Fail> {
+    let alloc = rt.alloc();
+    let net = two_parts(alloc)?;
+    assert_eq!(rt; net.len(), 2);
+    assert!(rt; !net.is_empty());
+    assert!(rt; net.get(1).changes());
+    assert_eq!(rt; net.get(1).table, 4);
+    assert_eq!(rt; net.get(0), &one_part(alloc, 3)?);
+    let commit = Commit::Change { net };
+    match commit.copy()? {
+        Commit::Change { net } => assert_eq!(rt; net.as_slice(), two_parts(alloc)?.as_slice()),
+        Commit::Create { .. } => assert!(rt; false),
+    }
     Ok(())
 }

@@ -1,0 +1,47 @@
+-- Laws of the machine, each the contract of a function of its own.
+use Rattle.std.specs.Prelude.{◌≡◌, ℕ, ◌+◌, ◌≤◌, true, List, [], ◌∷◌, ◌++◌, take, length}
+use Rattle.dk_types.specs.declared.value.Value.{Value}
+use Rattle.dk_types.specs.declared.net.Commit.{Commit}
+use Rattle.dk_types.specs.declared.net.TableNet.{TableNet}
+use Rattle.dk_types.specs.declared.statement.Statement.{Statement}
+use Rattle.dk_si.specs.declared.database.Table.{Table}
+use Rattle.dk_si.specs.declared.history.Asked.{Asked}
+use Rattle.dk_si.specs.declared.history.Entry.{Entry}
+use Rattle.dk_si.specs.declared.machine.Active.{Active}
+use Rattle.dk_si.specs.declared.machine.Machine.{Machine}
+use Rattle.dk_si.specs.declared.meaning.Meaning.TheVariants.{Change}
+use Rattle.dk_si.specs.Database.{after}
+use Rattle.dk_si.specs.Machine.{first_state, next, meaning_in}
+use Rattle.dk_si.specs.Meaning.{meaning, same_rows}
+use Rattle.dk_si.specs.Steps.{are_steps}
+
+-- the machine after these entries
+abbrev pub state_after : List Table → Machine → List Entry → Machine
+state_after opened machine [] = machine
+state_after opened machine (entry ∷ entries) = state_after opened (next opened machine entry) entries
+
+-- the state after the first n commits does not depend on what comes after the n-th
+abbrev pub CommitsStay : Type 0
+CommitsStay = (opened : List Table) (entries more : List Entry) (n : ℕ)
+    → n ≤ length (state_after opened first_state entries).commits
+    → after opened (state_after opened first_state (entries ++ more)).commits n ≡ after opened (state_after opened first_state entries).commits n
+
+-- the front of a list of steps is a list of steps
+abbrev pub FrontsAreSteps : Type 0
+FrontsAreSteps = (opened : List Table) (entries more : List Entry)
+    → are_steps opened [] first_state (entries ++ more) ≡ true → are_steps opened [] first_state entries ≡ true
+
+-- what a statement means in a transaction depends on the commits up to its start, and its own changes
+abbrev pub SeesItsSnapshot : Type 0
+SeesItsSnapshot = (opened : List Table) (commits others : List Commit) (active other : Active) (asked : Asked)
+    → active.start ≡ other.start → active.net ≡ other.net → take active.start commits ≡ take active.start others
+    → meaning_in opened commits active asked ≡ meaning_in opened others other asked
+
+-- rows that are told apart by nothing are equal
+abbrev pub SameRowsAreEqual : Type 0
+SameRowsAreEqual = (rows others : List (List Value)) → same_rows rows others ≡ true → rows ≡ others
+
+-- the count of a change is the number of rows that it updates, deletes and adds
+abbrev pub CountsItsRows : Type 0
+CountsItsRows = (tables : List Table) (statement : Statement) (count : ℕ) (part : TableNet)
+    → meaning tables statement ≡ Change count part → count ≡ length part.updates + length part.deletes + length part.rows

@@ -1,0 +1,10 @@
+pub mod Database
+pub mod Nets
+pub mod Weight
+pub mod Meaning
+pub mod Machine
+pub mod Held
+pub mod Steps
+pub mod Exchanges
+pub mod Legal
+pub mod Laws
