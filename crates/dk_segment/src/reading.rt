@@ -91,7 +91,7 @@ fn read_behind(
     let bytes = cursor.take(left)?;
     match read_body(alloc, encoding, bytes, kind, count) {
         Err(SegError::Malformed { at }) => Err(SegError::Malformed {
-            at: start.saturating_add(at),
+            at: start + at,
         }),
         read => read,
     }
