@@ -99,8 +99,8 @@ any_present (v ∷ values) t = by_test (is_present v) refl (any_present values t
     by_test false e ih = rw e ih
 
 -- a text is among the values that are present exactly where it is an entry
-pub known_is : (values : List Value) (t : List ℕ) → list_any (λ v. is_present v && bytes_eq t (text_of v)) values ≡ is_entry (entries_of (map text_of (present values))) t
-known_is values t = any_present values t ∙ seen_any text_of (present values) t ∙ sym (entry_among [] (map text_of (present values)) t)
+pub known_is : (values : List Value) (t : List ℕ) (known : Bool) → known ≡ list_any (λ v. is_present v && bytes_eq t (text_of v)) values → known ≡ is_entry (entries_of (map text_of (present values))) t
+known_is values t known e = e ∙ any_present values t ∙ seen_any text_of (present values) t ∙ sym (entry_among [] (map text_of (present values)) t)
 
 fold_append : (es texts more : List (List ℕ)) → entries_behind es (texts ++ more) ≡ entries_behind (entries_behind es texts) more
 fold_append es [] more = refl
@@ -195,7 +195,7 @@ cell_measured es v count len m known c l few small short e old fresh full = by_t
 none_some : {A : Type 0} {x : A} → None ≡ Some x → ⊥
 none_some e = cc
 
-short_text : (v : Value) → (is_present v ≡ true → IsPlain types.Text v) → length (text_of v) < 2 ^ 16
+pub short_text : (v : Value) → (is_present v ≡ true → IsPlain types.Text v) → length (text_of v) < 2 ^ 16
 short_text (variants.Text text) h = (h refl).0
 short_text v h = omega arith
 
@@ -226,3 +226,29 @@ too_many values i v count len false h e c few k known fresh =
     by_test : (b : Bool) → is_present v ≡ b → false ≡ (not (is_present v) || is_entry (entries_of (map text_of (present (take i values)))) (text_of v)) → with_cell (entries_of (map text_of (present (take i values)))) v ≡ entries_of (map text_of (present (take i values))) ++ text_of v ∷ []
     by_test true f k = rw (f, ← (rw f at k)) refl
     by_test false f k = absurd (let g : false ≡ true = rw f at k in cc)
+
+-- ---- entries in a table
+
+pub not_twice : (fresh known : Bool) → fresh ≡ not known → not fresh ≡ known
+not_twice fresh true e = ap not e
+not_twice fresh false e = ap not e
+
+-- the entries with the first text, and the texts behind it
+pub one_behind : (entries : List (List ℕ)) (t : List ℕ) (v : Value) (left rest : List Value) (all : List (List ℕ)) → t ≡ text_of v → left ≡ v ∷ rest → entries_behind entries (map text_of left) ≡ all → entries_behind (with_entry entries t) (map text_of rest) ≡ all
+one_behind entries t v left rest all e f told =
+    ap (λ (u : List ℕ). entries_behind (with_entry entries u) (map text_of rest)) e
+    ∙ ap (λ (vs : List Value). entries_behind entries (map text_of vs)) (sym f)
+    ∙ told
+
+pub first_fits : (v : Value) (left rest : List Value) → left ≡ v ∷ rest → AllByRecursion (IsPlain types.Text) left → IsPlain types.Text v × AllByRecursion (IsPlain types.Text) rest
+first_fits v left rest e all = subst (λ (vs : List Value). AllByRecursion (IsPlain types.Text) vs) e all
+
+pub full_behind : (entries : List (List ℕ)) (t : List ℕ) (texts : List (List ℕ)) (count len : ℕ) (known : Bool) → count ≡ length entries → count ≤ 65535 → known ≡ is_entry entries t
+    → (known ≡ true → ◌≡◌ {A = Option (ℕ × ℕ)} None (Some (count, len))) → (known ≡ false → count < 65535 → ◌≡◌ {A = Option (ℕ × ℕ)} None (Some (count + 1, len + (2 + length t)))) → 65536 ≤ length (entries_behind (with_entry entries t) texts)
+full_behind entries t texts count len true c few k known fresh = absurd (none_some (known refl))
+full_behind entries t texts count len false c few k known fresh =
+    let longer : with_entry entries t ≡ entries ++ t ∷ [] = ap (λ (b : Bool). cond b entries (entries ++ t ∷ [])) (sym k) in
+    elim (cases_lt count 65535) [
+      | inl lt ↦ absurd (none_some (fresh refl lt))
+      | inr le ↦ omega (arith, ap length longer, length-append entries (t ∷ []), grown (with_entry entries t) texts)
+    ]

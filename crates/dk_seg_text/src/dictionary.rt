@@ -113,12 +113,19 @@ fn is_among(values: &[Value], text: &[u8]) -> bool
         .any(|value| is_present(value) && text == text_of(value))
 }
 
-/// Whether a value behind these brings no text that is a new one.
+/// Whether the text is an entry of the values that are present.
 #[tactic(auto, using(crate::proofs::Measures::known_is))]
+fn is_entry(values: &[Value], text: &[u8]) -> bool
+    ensures { result ≡ is_entry (entries_of (map text_of (present values.now))) text.now }
+{
+    is_among(values, text)
+}
+
+/// Whether a value behind these brings no new text.
 fn brings_nothing(front: &[Value], value: &Value) -> bool
     ensures { result ≡ (not (is_present value.now) || is_entry (entries_of (map text_of (present front.now))) (text_of value.now)) }
 {
-    !is_present(value) || is_among(front, text_of(value))
+    !is_present(value) || is_entry(front, text_of(value))
 }
 
 /// How many different texts there are, and how many bytes they have with their lengths.
