@@ -16,7 +16,6 @@ pub(crate) struct Choice {
 }
 
 /// The encoding of least size for the values that are present, ties to the first.
-#[tactic(auto, using(crate::proofs::ChoiceLaws::column_plain))]
 pub fn analyse(values: &[Value], kind: ColType) -> Encoding
     requires { IsColumn kind values.now }
     ensures { IsBest kind (present values.now) result }

@@ -18,7 +18,6 @@ use dk_types::{ColType, OutOfMemory, Value};
 use std::alloc::Global;
 
 /// The segment of these values in the encoding of least size.
-#[tactic(auto, using(crate::proofs::ChoiceLaws::column_plain))]
 pub fn encode(alloc: Global, values: &[Value], kind: ColType) -> Result<Vec<u8>, OutOfMemory>
     requires { IsColumn kind values.now }
     ensures { IfOk result (λ v. (encoding : Encoding) × IsBest kind (present values.now) encoding × IsSegment kind encoding values.now v.items) }
