@@ -11,7 +11,9 @@ ghost use Rattle.dk_seg_pack.specs.Packed.{value_of_rank, rank_of, least, greate
 
 use crate::numbers::{bit_width, byte_count, pack, take_packed, unpack};
 use crate::rank::{half_turned, rank_of, value_of_rank};
-use dk_bytes::{Cursor, SegError, is_present, plain_len, present_count, put_u8, put_u64, split_present};
+use dk_bytes::{
+    Cursor, SegError, is_present, plain_len, present_count, put_u8, put_u64, split_present,
+};
 use dk_types::{ColType, OutOfMemory, Value};
 use std::alloc::Global;
 

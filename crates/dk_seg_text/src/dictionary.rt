@@ -65,11 +65,7 @@ pub fn size(values: &[Value], kind: ColType) -> Option<usize>
 
 /// What `size` answers, in a time that grows with the bytes of the values alone.
 #[tactic(auto, using(crate::proofs::Measures::dictionary_len))]
-pub fn size_in(
-    alloc: Global,
-    values: &[Value],
-    kind: ColType,
-) -> Result<Option<usize>, OutOfMemory>
+pub fn size_in(alloc: Global, values: &[Value], kind: ColType) -> Result<Option<usize>, OutOfMemory>
     ensures held { IfOk result (λ size. IsSome size ↔ IsDictionary kind (present values.now)) }
     ensures length { IfOk result (λ size. IfSome size (λ n. n ≡ length (dictionary_bytes (present values.now)))) }
 {
@@ -79,9 +75,7 @@ pub fn size_in(
     let Some((count, len)) = measure_in(alloc, values)? else {
         return Ok(None);
     };
-    Ok(Some(
-        3 + len + byte_count(code_width(count), present_count(values)) as usize,
-    ))
+    Ok(Some(3 + len + byte_count(code_width(count), present_count(values)) as usize))
 }
 
 /// Whether these are texts, at least one.

@@ -92,9 +92,7 @@ fn read_behind(
     // The end has a place, and so has each fault before it.
     let _end = cursor.at();
     match read_body(alloc, encoding, bytes, kind, count) {
-        Err(SegError::Malformed { at }) => Err(SegError::Malformed {
-            at: start + at,
-        }),
+        Err(SegError::Malformed { at }) => Err(SegError::Malformed { at: start + at }),
         read => read,
     }
 }

@@ -158,7 +158,7 @@ fn counts(rt: HostRuntime) -> Result<(), Fail> {
     for (count, len) in [(1, 10), (2, 14), (2047, 2830), (2048, 2831)] {
         counts_up(&rt, count, len)?;
     }
-    let mut values = vec![in rt.alloc(); Value::Null; 0]?;
+    let mut values = Vec::new(rt.alloc());
     assert!(rt; !is_column(&values, ColType::Int));
     for _ in 0..2049u32 {
         values.push(Value::Null)?;
@@ -188,11 +188,12 @@ fn nulls(rt: HostRuntime) -> Result<(), Fail> {
         text(&rt, b"")?,
         text(&rt, b"ab")?,
     ];
+    // A dictionary and the plain texts take ten bytes each, and the dictionary goes first.
     comes_back(
         &rt,
         &texts,
         ColType::Text,
-        &[0, 1, 5, 0, 0, 0, 26, 2, 0, 97, 98, 0, 0, 2, 0, 97, 98],
+        &[4, 1, 5, 0, 0, 0, 26, 2, 0, 2, 0, 97, 98, 0, 0, 1, 2],
     )
 }
 
