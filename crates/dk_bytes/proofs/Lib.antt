@@ -5,3 +5,6 @@ pub mod Numbers
 pub mod Plain
 pub mod Same
 pub mod Outcome
+pub mod Within
+pub mod Presence
+pub mod ChecksumLaws

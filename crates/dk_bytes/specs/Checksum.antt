@@ -1,5 +1,5 @@
 -- The checksum of a byte string.
-use Rattle.std.specs.Prelude.{ℕ, zero, suc, ◌+◌, ◌*◌, ◌/◌, ◌%◌, ◌^◌, List, [], ◌∷◌, length, drop, fold, bit_xor}
+use Rattle.std.specs.Prelude.{◌≡◌, ℕ, zero, suc, ◌+◌, ◌*◌, ◌/◌, ◌%◌, ◌^◌, ◌<◌, List, [], ◌∷◌, ◌++◌, length, drop, fold, get_or, bit_xor}
 use Rattle.std.specs.Int.{w64, from_le_bytes}
 
 -- the higher bits of a word, folded into the lower ones
@@ -26,3 +26,15 @@ with_bytes sum bytes = fold with_word sum (words (word_count (length bytes)) byt
 -- all words and then the length, folded into 5381
 abbrev pub checksum_of : List ℕ → ℕ
 checksum_of bytes = with_word (with_bytes 5381 bytes) (length bytes)
+
+-- two byte strings of one length whose words are the same but for one
+pub record DifferInOneWord (bytes other : List ℕ) : Type 0 where
+  pub len : length other ≡ length bytes
+  pub fits : (i : ℕ) → get_or other i 0 < 256
+  pub front : List ℕ
+  pub back : List ℕ
+  pub word : ℕ
+  pub other_word : ℕ
+  pub is : words (word_count (length bytes)) bytes ≡ front ++ word ∷ back
+  pub other_is : words (word_count (length other)) other ≡ front ++ other_word ∷ back
+  pub differs : word ≡ other_word → ⊥

@@ -1,5 +1,5 @@
 -- The plain bytes of the values of each type.
-use Rattle.std.specs.Prelude.{ℕ, ◌<◌, ◌^◌, Bool, true, false, List, [], ◌∷◌, ◌++◌, length, Result, Ok, Err, FitsSigned, IsUtf8, nat_lt, ◌==◌, if◌then◌else◌}
+use Rattle.std.specs.Prelude.{ℕ, ◌<◌, ◌^◌, Bool, true, false, List, [], ◌∷◌, ◌++◌, length, filter, Result, Ok, Err, FitsSigned, IsUtf8, nat_lt, ◌==◌, if◌then◌else◌}
 use Rattle.std.specs.Str.{is_utf8, bytes_eq}
 use Rattle.std.specs.Ordering.{int_eq}
 use Rattle.std.specs.Int.{w8, w16, w32, w64, to_le_bytes, cast_signed, cast_unsigned}
@@ -17,6 +17,14 @@ IsPlain types.Int (values.Int n) = FitsSigned w32 n
 IsPlain types.Big (values.Big n) = FitsSigned w64 n
 IsPlain types.Text (values.Text text) = (length text < 2 ^ 16) × IsUtf8 text
 IsPlain kind value = ⊥
+
+abbrev pub is_present : Value → Bool
+is_present values.Null = false
+is_present value = true
+
+-- the values that are not null
+abbrev pub present : List Value → List Value
+present values = filter is_present values
 
 abbrev pub bit_byte : Bool → ℕ
 bit_byte false = 0

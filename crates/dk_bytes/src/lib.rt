@@ -8,6 +8,7 @@
 
 mod cursor;
 mod plain_value;
+mod present;
 mod put;
 mod segment_error;
 mod sum;
@@ -15,6 +16,7 @@ mod word;
 
 pub use cursor::{Cursor, Short};
 pub use plain_value::{copy_value, is_same, plain_len, put_value, read_value};
+pub use present::{is_present, present_count, split_present};
 pub use put::{put_u8, put_u16, put_u32, put_u64};
 pub use segment_error::SegError;
 pub use sum::checksum;

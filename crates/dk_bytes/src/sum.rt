@@ -1,6 +1,6 @@
-ghost use Rattle.std.specs.Prelude.{◌≡◌, ◌<◌, ◌≤◌, length};
+ghost use Rattle.std.specs.Prelude.{◌≡◌, ◌<◌, ◌≤◌, ℕ, List, length};
 ghost use Rattle.std.specs.Int.{w64, from_le_bytes};
-ghost use Rattle.dk_bytes.specs.Checksum.{with_word, with_bytes, checksum_of};
+ghost use Rattle.dk_bytes.specs.Checksum.{with_word, with_bytes, checksum_of, DifferInOneWord};
 
 use crate::word::word_of;
 
@@ -43,8 +43,15 @@ fn fold_bytes(start: u64, bytes: &[u8]) -> u64
 }
 
 /// The checksum of a byte string: a fold over its words of 8 bytes, the last one filled with zeros, and then over its
-/// length.
+/// length. Another word in place of one of them, or of a bit of one, changes it.
 pub fn checksum(bytes: &[u8]) -> u64
+    ensures fold { result ≡ checksum_of bytes.now }
+    ensures tells { (other : List ℕ) → DifferInOneWord bytes.now other → checksum_of other ≡ result → ⊥ }
+{
+    folded(bytes)
+}
+
+fn folded(bytes: &[u8]) -> u64
     ensures { result ≡ checksum_of bytes.now }
 {
     fold_word(fold_bytes(5381, bytes), bytes.len() as u64)

@@ -6,3 +6,4 @@ pub mod Bodies
 pub mod Ranks
 pub mod Inverse
 pub mod Reading
+pub mod PackedWithin

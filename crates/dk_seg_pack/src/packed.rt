@@ -1,16 +1,19 @@
-//! The body has the least value, a width, and in so many bits each what the values stand above the least one.
+//! The body has the least value, a width, and in so many bits each what the values stand above the least one; nulls are
+//! passed over.
 
-ghost use Rattle.std.specs.Prelude.{◌≡◌, ◌++◌, ◌↔◌, ◌≤◌, ◌<◌, ◌^◌, ◌+◌, ◌-◌, ◌*◌, ◌==◌, ◌&&◌, List, length, take, Ok, map, option_map, not, IsSome, IsTrue, IfSome, IfOk, OnOk, OnErr, All};
+ghost use Rattle.std.specs.Prelude.{◌≡◌, ◌++◌, ◌↔◌, ◌≤◌, ◌<◌, ◌^◌, ◌+◌, ◌-◌, ◌*◌, ◌==◌, ◌&&◌, List, length, take, Ok, map, option_map, not, IsSome, IsTrue, IfSome, IfOk, OnOk, OnErr};
 ghost use Rattle.dk_types.specs.declared.value.Value.{Value};
-ghost use Rattle.dk_bytes.specs.PlainValue.{IsPlain};
+ghost use Rattle.dk_bytes.specs.PlainValue.{IsPlain, present};
 ghost use Rattle.dk_bytes.specs.Reading.{Gives};
 ghost use Rattle.dk_seg_pack.specs.Bits.{bit_width};
-ghost use Rattle.std.specs.List.{list_any};
+ghost use Rattle.std.specs.List.{AllByRecursion, list_any};
 ghost use Rattle.dk_seg_pack.specs.Packed.{value_of_rank, rank_of, least, greatest, differences, width_of, body_of, packed_bytes, IsPacked, is_numeric, values_above, values_of, differences_at, numbers_at, packed_at};
 
 use crate::numbers::{bit_width, byte_count, pack, take_packed, unpack};
 use crate::rank::{half_turned, rank_of, value_of_rank};
-use dk_bytes::{Cursor, SegError, plain_len, put_u8, put_u64};
+use dk_bytes::{
+    Cursor, SegError, is_present, plain_len, present_count, put_u8, put_u64, split_present,
+};
 use dk_types::{ColType, OutOfMemory, Value};
 use std::alloc::Global;
 
@@ -25,40 +28,50 @@ fn is_numeric(kind: ColType) -> bool
 
 /// Whether these are numbers of the type, at least one.
 fn is_packed(values: &[Value], kind: ColType) -> bool
-    ensures { IsTrue result ↔ IsPacked kind values.now }
+    ensures { IsTrue result ↔ IsPacked kind (present values.now) }
 {
-    is_numeric(kind) && !values.is_empty() && are_plain(values, kind)
+    is_numeric(kind) && present_count(values) > 0 && are_plain(values, kind)
 }
 
+/// Whether all that are present are values of the type.
 fn are_plain(values: &[Value], kind: ColType) -> bool
-    ensures { IsTrue result ↔ All (IsPlain kind) values.now }
+    ensures { IsTrue result ↔ AllByRecursion (IsPlain kind) (present values.now) }
 {
-    values.iter().all(|value| plain_len(value, kind).is_some())
+    let mut left = values;
+    'values: while let Some((value, rest)) = split_present(left) {
+        if plain_len(value, kind).is_none() {
+            return false;
+        }
+        left = rest;
+    }
+    true
 }
 
 fn least(values: &[Value]) -> u64
-    ensures { result ≡ least (map rank_of values.now) }
+    ensures { result ≡ least (map rank_of (present values.now)) }
 {
     values
         .iter()
+        .filter(|value| is_present(value))
         .map(|value| rank_of(value))
         .fold(u64::MAX, |least, rank| least.min(rank))
 }
 
 fn greatest(values: &[Value]) -> u64
-    ensures { result ≡ greatest (map rank_of values.now) }
+    ensures { result ≡ greatest (map rank_of (present values.now)) }
 {
     values
         .iter()
+        .filter(|value| is_present(value))
         .map(|value| rank_of(value))
         .fold(0, |greatest, rank| greatest.max(rank))
 }
 
 /// The width of the greatest difference.
 fn width_of(values: &[Value]) -> u32
-    ensures value { result ≡ width_of (map rank_of values.now) }
+    ensures value { result ≡ width_of (map rank_of (present values.now)) }
     ensures most { result ≤ 64 }
-    ensures fits { greatest (map rank_of values.now) - least (map rank_of values.now) < 2 ^ result }
+    ensures fits { greatest (map rank_of (present values.now)) - least (map rank_of (present values.now)) < 2 ^ result }
 {
     bit_width(greatest(values).saturating_sub(least(values)))
 }
@@ -66,19 +79,19 @@ fn width_of(values: &[Value]) -> u32
 /// How long the body of these values is, if they are numbers of the type.
 #[tactic(auto, using(crate::proofs::Bodies::packed_len))]
 pub fn size(values: &[Value], kind: ColType) -> Option<usize>
-    ensures held { IsSome result ↔ IsPacked kind values.now }
-    ensures length { IfSome result (λ n. n ≡ length (packed_bytes values.now)) }
+    ensures held { IsSome result ↔ IsPacked kind (present values.now) }
+    ensures length { IfSome result (λ n. n ≡ length (packed_bytes (present values.now))) }
 {
     if !is_packed(values, kind) {
         return None;
     }
-    Some(9 + byte_count(width_of(values), values.len()) as usize)
+    Some(9 + byte_count(width_of(values), present_count(values)) as usize)
 }
 
 /// Appends the body.
 pub fn encode(values: &[Value], kind: ColType, out: &mut Vec<u8>) -> Result<(), OutOfMemory>
-    requires { IsPacked kind values.now }
-    ensures ok { OnOk result (out.new.items ≡ out.old.items ++ packed_bytes values.now) }
+    requires { IsPacked kind (present values.now) }
+    ensures ok { OnOk result (out.new.items ≡ out.old.items ++ packed_bytes (present values.now)) }
     ensures err { OnErr result (out.new.items ≡ out.old.items) }
 {
     let before = out.len();
@@ -91,7 +104,7 @@ pub fn encode(values: &[Value], kind: ColType, out: &mut Vec<u8>) -> Result<(), 
 
 /// Appends the body. Without memory a part of it may have been appended.
 fn put_body(values: &[Value], out: &mut Vec<u8>) -> Result<(), OutOfMemory>
-    ensures ok { OnOk result (out.new.items ≡ out.old.items ++ packed_bytes values.now) }
+    ensures ok { OnOk result (out.new.items ≡ out.old.items ++ packed_bytes (present values.now)) }
     ensures kept { take (length out.old.items) out.new.items ≡ out.old.items }
 {
     let base = least(values);
@@ -104,10 +117,11 @@ fn put_body(values: &[Value], out: &mut Vec<u8>) -> Result<(), OutOfMemory>
 
 /// What the values stand above that rank.
 fn differences(alloc: Global, values: &[Value], base: u64) -> Result<Vec<u64>, OutOfMemory>
-    ensures { IfOk result (λ ds. ds.items ≡ map (λ value. rank_of value - base) values.now) }
+    ensures { IfOk result (λ ds. ds.items ≡ map (λ value. rank_of value - base) (present values.now)) }
 {
     values
         .iter()
+        .filter(|value| is_present(value))
         .map(|value| rank_of(value).saturating_sub(base))
         .collect(alloc)
 }

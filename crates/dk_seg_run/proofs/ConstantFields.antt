@@ -2,7 +2,6 @@
 use Rattle.std.proofs.Common.{◌≡◌, ℕ, zero, suc, ◌+◌, List, [], ◌∷◌, ◌++◌, length, Result, Ok, refl, sym, ap, subst, ◌∙◌, replicate}
 use Rattle.std.specs.List.{AllByRecursion}
 use Rattle.std.proofs.lemmas.List.{append-nil, length-replicate}
-use Rattle.std.proofs.lemmas.List.Elements.{All-replicate, recursion_from_All}
 use Rattle.dk_types.specs.declared.value.ColType.{ColType}
 use Rattle.dk_types.specs.declared.value.Value.{Value}
 use Rattle.dk_bytes.specs.Reading.{start, whole}
@@ -18,6 +17,10 @@ pub record IsBody (kind : ColType) (count : ℕ) (bytes : List ℕ) (values : Li
   pub constant : IsConstant kind values
   pub told : bytes ≡ constant_bytes values
 
+all_copies : (n : ℕ) (value : Value) → AllByRecursion (λ other. other ≡ value) (replicate n value)
+all_copies zero value = tt
+all_copies (suc n) value = (refl, all_copies n value)
+
 pub body_found : (kind : ColType) (count : ℕ) (bytes : List ℕ) (values : List Value) → IsBytes bytes → constant_at kind count bytes ≡ Ok values → IsBody kind count bytes values
 unfolding constant_at
 body_found kind zero bytes values fits e = absurd cc
@@ -28,7 +31,7 @@ body_found kind (suc n) bytes values fits e =
     let t = value_takes kind (start bytes) (value, w.behind) fits w.told in
     subst (λ (vs : List Value). IsBody kind (suc n) bytes vs) (ok_is (replicate (suc n) value) values b.2) (record {
       total = length-replicate (suc n) value;
-      constant = (t.plain, All-replicate (λ other. other ≡ value) n value refl);
+      constant = (t.plain, all_copies n value);
       told = t.takes.passes.rest ∙ ap (λ (l : List ℕ). plain_bytes value ++ l) w.used ∙ append-nil (plain_bytes value);
     })
 
@@ -46,7 +49,7 @@ body_read kind (v ∷ vs) h =
     let text = plain_bytes v in
     let read : value_at kind (start text) ≡ Ok (v, after 0 text [])
     = subst (λ (l : List ℕ). value_at kind (record { at = 0; rest = l }) ≡ Ok (v, after 0 text [])) (append-nil text) (value_again kind v [] 0 h.0) in
-    let same : replicate (length vs) v ≡ vs = all_one v vs (recursion_from_All (λ other. other ≡ v) vs h.1) in
+    let same : replicate (length vs) v ≡ vs = all_one v vs h.1 in
     rw (whole_at (value_at kind (start text)) v (0 + length text) read) (ap (λ (l : List Value). ok_values (v ∷ l)) same)
 
 pub body_only : (kind : ColType) (count : ℕ) (bytes : List ℕ) (values : List Value) → length values ≡ count → IsConstant kind values → bytes ≡ constant_bytes values → constant_at kind count bytes ≡ Ok values

@@ -3,3 +3,4 @@ pub mod Runs
 pub mod RunFields
 pub mod RunLoops
 pub mod ConstantFields
+pub mod RunsWithin

@@ -1,12 +1,12 @@
 -- The runs of a list of values.
-use Rattle.std.proofs.Common.{◌≡◌, ℕ, zero, suc, ◌+◌, ◌-◌, Bool, true, false, List, [], ◌∷◌, ◌++◌, drop, Option, Some, None, refl, sym, ap, subst, ◌∙◌, replicate, arith, add-one}
+use Rattle.std.proofs.Common.{◌≡◌, ℕ, zero, suc, ◌+◌, ◌-◌, Bool, true, false, List, [], ◌∷◌, ◌++◌, length, take, drop, not, ◌||◌, Option, Some, None, refl, sym, ap, subst, ◌∙◌, replicate, arith, add-one}
 use Rattle.std.specs.List.{AllByRecursion, prefix_len}
 use Rattle.dk_types.specs.declared.value.ColType.{ColType}
 use Rattle.dk_types.specs.declared.value.Value.{Value}
 use Rattle.dk_seg_run.specs.declared.run_length.Run.{Run}
-use Rattle.dk_bytes.specs.PlainValue.{same}
+use Rattle.dk_bytes.specs.PlainValue.{is_present, present, same}
 use Rattle.dk_bytes.proofs.Same.{same_true, same_self}
-use Rattle.dk_seg_run.specs.RunLength.{expanded, run_of, with_value, runs_of, IsRun, repeats}
+use Rattle.dk_seg_run.specs.RunLength.{passes, expanded, run_of, with_value, runs_of, IsRun, repeats}
 
 -- a value before the runs of the values after it, where their first run is known
 with_same : (v : Value) (n : ℕ) (runs : List Run) → with_value v (run_of v n ∷ runs) ≡ run_of v (n + 1) ∷ runs
@@ -35,10 +35,51 @@ front_run v (w ∷ vs) = by_test (same v w) refl (front_run v vs) (front_run w v
     by_test false e here next =
         rw e (ap (with_value v) next ∙ with_other v w _ _ e ∙ ap (λ (l : List Run). run_of v 1 ∷ l) (sym next))
 
-pub first_run : (n : ℕ) (v : Value) (vs : List Value) → n ≡ prefix_len (same v) vs → runs_of (v ∷ vs) ≡ run_of v (n + 1) ∷ runs_of (drop (n + 1) (v ∷ vs))
-first_run n v vs e =
-    let drops : runs_of (drop (n + 1) (v ∷ vs)) ≡ runs_of (drop n vs) = ap (λ (m : ℕ). runs_of (drop m (v ∷ vs))) (add-one n) in
-    rw (drops, e) (front_run v vs)
+-- the values that are null or the value, and of these the values that are present
+pub kept_count : (v : Value) (vs : List Value) → length (present (take (prefix_len (passes v) vs) vs)) ≡ prefix_len (same v) (present vs)
+kept_count v [] = refl
+kept_count v (w ∷ vs) = by_test (is_present w) (same v w) refl refl (kept_count v vs)
+  where
+    by_test : (p s : Bool) → is_present w ≡ p → same v w ≡ s
+        → length (present (take (prefix_len (passes v) vs) vs)) ≡ prefix_len (same v) (present vs)
+        → length (present (take (prefix_len (passes v) (w ∷ vs)) (w ∷ vs))) ≡ prefix_len (same v) (present (w ∷ vs))
+    by_test false s p e here =
+        let k = prefix_len (passes v) vs in
+        let one : 1 + k ≡ suc k = omega arith in
+        let less : length (present (w ∷ take k vs)) ≡ length (present (take k vs)) = rw p refl in
+        rw p (ap (λ (m : ℕ). length (present (take m (w ∷ vs)))) one ∙ less ∙ here)
+    by_test true true p e here =
+        let k = prefix_len (passes v) vs in
+        let one : 1 + k ≡ suc k = omega arith in
+        let more : length (present (w ∷ take k vs)) ≡ 1 + length (present (take k vs)) = rw p (omega arith) in
+        rw (p, e) (ap (λ (m : ℕ). length (present (take m (w ∷ vs)))) one ∙ more ∙ ap (λ (m : ℕ). 1 + m) here)
+    by_test true false p e here = rw (p, e) refl
+
+pub kept_rest : (v : Value) (vs : List Value) → present (drop (prefix_len (passes v) vs) vs) ≡ drop (prefix_len (same v) (present vs)) (present vs)
+kept_rest v [] = refl
+kept_rest v (w ∷ vs) = by_test (is_present w) (same v w) refl refl (kept_rest v vs)
+  where
+    by_test : (p s : Bool) → is_present w ≡ p → same v w ≡ s
+        → present (drop (prefix_len (passes v) vs) vs) ≡ drop (prefix_len (same v) (present vs)) (present vs)
+        → present (drop (prefix_len (passes v) (w ∷ vs)) (w ∷ vs)) ≡ drop (prefix_len (same v) (present (w ∷ vs))) (present (w ∷ vs))
+    by_test false s p e here =
+        let k = prefix_len (passes v) vs in
+        let one : 1 + k ≡ suc k = omega arith in
+        rw p (ap (λ (m : ℕ). present (drop m (w ∷ vs))) one ∙ here)
+    by_test true true p e here =
+        let k = prefix_len (passes v) vs in
+        let one : 1 + k ≡ suc k = omega arith in
+        let j = prefix_len (same v) (present vs) in
+        let two : suc j ≡ 1 + j = omega arith in
+        rw (p, e) (ap (λ (m : ℕ). present (drop m (w ∷ vs))) one ∙ here ∙ ap (λ (m : ℕ). drop m (w ∷ present vs)) two)
+    by_test true false p e here = rw (p, e) (rw p refl)
+
+pub first_run : (n count : ℕ) (v : Value) (vs front behind : List Value) → n ≡ prefix_len (passes v) vs → front ≡ take n vs → behind ≡ drop n vs → count ≡ length (present front)
+    → runs_of (v ∷ present vs) ≡ run_of v (count + 1) ∷ runs_of (present behind)
+first_run n count v vs front behind e f b c =
+    let number : count ≡ prefix_len (same v) (present vs) = c ∙ ap (λ (l : List Value). length (present l)) (f ∙ ap (λ (m : ℕ). take m vs) e) ∙ kept_count v vs in
+    let rest : present behind ≡ drop (prefix_len (same v) (present vs)) (present vs) = ap present (b ∙ ap (λ (m : ℕ). drop m vs) e) ∙ kept_rest v vs in
+    rw (number, rest) (front_run v (present vs))
 
 -- the runs stand for the values
 expanded-with : (v : Value) (runs : List Run) → expanded (with_value v runs) ≡ v ∷ expanded runs

@@ -1,5 +1,6 @@
 -- The bodies of segments whose values are all the same.
-use Rattle.std.specs.Prelude.{◌≡◌, ℕ, zero, suc, List, [], ◌∷◌, Result, Ok, Err, All, replicate}
+use Rattle.std.specs.Prelude.{◌≡◌, ℕ, zero, suc, List, [], ◌∷◌, Result, Ok, Err, replicate}
+use Rattle.std.specs.List.{AllByRecursion}
 use Rattle.dk_types.specs.declared.value.ColType.{ColType}
 use Rattle.dk_types.specs.declared.value.Value.{Value}
 use Rattle.dk_bytes.specs.PlainValue.{IsPlain, plain_bytes, value_at}
@@ -8,7 +9,7 @@ use Rattle.dk_bytes.specs.Reading.{◌>>=◌, start, whole}
 -- at least one value, and all are that one
 abbrev pub IsConstant : ColType → List Value → Type 0
 IsConstant kind [] = ⊥
-IsConstant kind (value ∷ values) = IsPlain kind value × All (λ other. other ≡ value) values
+IsConstant kind (value ∷ values) = IsPlain kind value × AllByRecursion (λ other. other ≡ value) values
 
 -- the one value that all are
 abbrev pub constant_bytes : List Value → List ℕ

@@ -1,12 +1,12 @@
 -- The bodies of segments whose values are gathered in runs.
-use Rattle.std.specs.Prelude.{ℕ, zero, suc, ◌+◌, ◌-◌, ◌<◌, ◌^◌, Bool, false, List, [], ◌∷◌, ◌++◌, length, Option, Some, None, Result, Ok, Err, replicate, ◌==◌, if◌then◌else◌, slice_get, option_map}
+use Rattle.std.specs.Prelude.{ℕ, zero, suc, ◌+◌, ◌-◌, ◌<◌, ◌^◌, Bool, false, List, [], ◌∷◌, ◌++◌, length, not, ◌||◌, Option, Some, None, Result, Ok, Err, replicate, ◌==◌, if◌then◌else◌, slice_get, option_map}
 use Rattle.std.specs.List.{flat_map, AllByRecursion}
 use Rattle.std.specs.Int.{w16, w32, to_le_bytes}
 use Rattle.dk_types.specs.declared.value.ColType.{ColType}
 use Rattle.dk_types.specs.declared.value.Value.{Value}
 use Rattle.dk_seg_run.specs.declared.run_length.Run.{Run}
 use Rattle.dk_bytes.specs.Fields.{Place, number_at}
-use Rattle.dk_bytes.specs.PlainValue.{IsPlain, plain_bytes, same, value_at}
+use Rattle.dk_bytes.specs.PlainValue.{IsPlain, plain_bytes, is_present, same, value_at}
 use Rattle.dk_bytes.specs.Reading.{◌>>=◌, start}
 
 abbrev pub run_values : Run → List Value
@@ -15,6 +15,10 @@ run_values run = replicate run.count run.value
 -- the values that runs stand for
 abbrev pub expanded : List Run → List Value
 expanded runs = flat_map run_values runs
+
+-- null, or the value
+abbrev pub passes : Value → Value → Bool
+passes value other = not (is_present other) || same value other
 
 abbrev pub run_of : Value → ℕ → Run
 run_of value count = record { value = value; count = count }

@@ -1,42 +1,50 @@
-//! The body is the one value that all values are.
+//! The body is the one value that all values are; nulls are passed over.
 
-ghost use Rattle.std.specs.Prelude.{◌≡◌, ◌++◌, ◌↔◌, List, length, Ok, IsSome, IsTrue, IfSome, IfOk, OnOk, OnErr, All};
+ghost use Rattle.std.specs.Prelude.{◌≡◌, ◌++◌, ◌↔◌, List, length, Ok, IsSome, IsTrue, IfSome, IfOk, OnOk, OnErr};
+ghost use Rattle.std.specs.List.{AllByRecursion};
 ghost use Rattle.dk_types.specs.declared.value.Value.{Value};
+ghost use Rattle.dk_bytes.specs.PlainValue.{present};
 ghost use Rattle.dk_bytes.specs.Reading.{Gives};
 ghost use Rattle.dk_seg_run.specs.Constant.{IsConstant, constant_bytes, constant_at};
 
 use crate::copies::push_copies;
-use dk_bytes::{Cursor, SegError, is_same, plain_len, put_value, read_value};
+use dk_bytes::{Cursor, SegError, is_same, plain_len, put_value, read_value, split_present};
 use dk_types::{ColType, OutOfMemory, Value};
 use std::alloc::Global;
 
 /// How long the body of these values is, if all are one.
 pub fn size(values: &[Value], kind: ColType) -> Option<usize>
-    ensures held { IsSome result ↔ IsConstant kind values.now }
-    ensures length { IfSome result (λ n. n ≡ length (constant_bytes values.now)) }
+    ensures held { IsSome result ↔ IsConstant kind (present values.now) }
+    ensures length { IfSome result (λ n. n ≡ length (constant_bytes (present values.now))) }
 {
-    let [first, rest @ ..] = values else {
-        return None;
-    };
+    let (first, rest) = split_present(values)?;
     if !are_all(rest, first) {
         return None;
     }
     plain_len(first, kind)
 }
 
+/// Whether all that are present are that one.
 fn are_all(values: &[Value], first: &Value) -> bool
-    ensures { IsTrue result ↔ All (λ other. other ≡ first.now) values.now }
+    ensures { IsTrue result ↔ AllByRecursion (λ other. other ≡ first.now) (present values.now) }
 {
-    values.iter().all(|value| is_same(value, first))
+    let mut left = values;
+    'values: while let Some((value, rest)) = split_present(left) {
+        if !is_same(value, first) {
+            return false;
+        }
+        left = rest;
+    }
+    true
 }
 
 /// Appends the body.
 pub fn encode(values: &[Value], kind: ColType, out: &mut Vec<u8>) -> Result<(), OutOfMemory>
-    requires { IsConstant kind values.now }
-    ensures ok { OnOk result (out.new.items ≡ out.old.items ++ constant_bytes values.now) }
+    requires { IsConstant kind (present values.now) }
+    ensures ok { OnOk result (out.new.items ≡ out.old.items ++ constant_bytes (present values.now)) }
     ensures err { OnErr result (out.new.items ≡ out.old.items) }
 {
-    let [first, ..] = values else {
+    let Some((first, _)) = split_present(values) else {
         unreachable!();
     };
     put_value(out, first, kind)

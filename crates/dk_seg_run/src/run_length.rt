@@ -1,14 +1,18 @@
-//! The body has, behind their number, the runs of equal neighbours: the value, and how often it stands.
+//! The body has, behind their number, the runs of equal neighbours: the value, and how often it stands. Nulls are
+//! passed over.
 
 ghost use Rattle.std.specs.Prelude.{◌≡◌, ◌+◌, ◌++◌, ◌<◌, ◌^◌, ◌≤◌, ◌↔◌, ℕ, List, ◌∷◌, Option, None, length, take, drop, Ok, IsSome, IsOk, IsTrue, IfSome, IfOk, OnOk, OnErr, vec_len};
 ghost use Rattle.std.specs.List.{AllByRecursion, flat_map, prefix_len};
 ghost use Rattle.dk_types.specs.declared.value.Value.{Value};
 ghost use Rattle.dk_bytes.specs.Reading.{Gives};
-ghost use Rattle.dk_bytes.specs.PlainValue.{same};
-ghost use Rattle.dk_seg_run.specs.RunLength.{IsRun, HasRuns, run_of, runs_of, run_bytes, run_length_bytes, run_length_at, run_at, runs_at, expanded, last_of, repeats};
+ghost use Rattle.dk_bytes.specs.PlainValue.{present};
+ghost use Rattle.dk_seg_run.specs.RunLength.{passes, IsRun, HasRuns, run_of, runs_of, run_bytes, run_length_bytes, run_length_at, run_at, runs_at, expanded, last_of, repeats};
 
 use crate::copies::push_copies;
-use dk_bytes::{Cursor, SegError, is_same, plain_len, put_u16, put_u32, put_value, read_value};
+use dk_bytes::{
+    Cursor, SegError, is_present, is_same, plain_len, present_count, put_u16, put_u32, put_value,
+    read_value, split_present,
+};
 use dk_types::{ColType, OutOfMemory, Value};
 use std::alloc::Global;
 
@@ -19,33 +23,34 @@ pub struct Run {
     pub count: u16,
 }
 
-/// How many values at the front are this one.
-fn equal_count(values: &[Value], first: &Value) -> usize
-    ensures front { result ≡ prefix_len (same first.now) values.now }
+/// How many values at the front are null or this one.
+fn front_len(first: &Value, values: &[Value]) -> usize
+    ensures front { result ≡ prefix_len (passes first.now) values.now }
     ensures within { result ≤ length values.now }
 {
     values
         .iter()
-        .take_while(|value| is_same(first, value))
+        .take_while(|value| !is_present(value) || is_same(first, value))
         .count()
 }
 
-/// How often the first value stands at the front.
+/// How often the first value stands before another one, and the values from that one on.
 #[tactic(auto, using(crate::proofs::Runs::first_run))]
-fn front_count(first: &Value, rest: &[Value]) -> usize
-    ensures run { runs_of (first.now ∷ rest.now) ≡ run_of first.now result ∷ runs_of (drop result (first.now ∷ rest.now)) }
-    ensures within { result ≤ length rest.now + 1 }
-    ensures some { 0 < result }
+fn split_run<'a>(first: &Value, rest: &'a [Value]) -> (usize, &'a [Value])
+    ensures run { runs_of (first.now ∷ present rest.now) ≡ run_of first.now result.0 ∷ runs_of (present result.1.now) }
+    ensures within { result.0 + length result.1.now ≤ length rest.now + 1 }
+    ensures some { 0 < result.0 }
 {
-    equal_count(rest, first) + 1
+    let (front, behind) = rest.split_at(front_len(first, rest));
+    (present_count(front) + 1, behind)
 }
 
 /// How long the body of these values is, if it can hold them: a run has at most 65,535 values.
 pub fn size(values: &[Value], kind: ColType) -> Option<usize>
-    ensures held { IsSome result ↔ HasRuns kind values.now }
-    ensures length { IfSome result (λ n. n ≡ length (run_length_bytes values.now)) }
+    ensures held { IsSome result ↔ HasRuns kind (present values.now) }
+    ensures length { IfSome result (λ n. n ≡ length (run_length_bytes (present values.now))) }
 {
-    if values.is_empty() {
+    if present_count(values) == 0 {
         return None;
     }
     let len = runs_len(values, kind)?;
@@ -54,45 +59,43 @@ pub fn size(values: &[Value], kind: ColType) -> Option<usize>
 
 /// How long the runs behind their number are.
 fn runs_len(values: &[Value], kind: ColType) -> Option<usize>
-    ensures held { IsSome result ↔ (AllByRecursion (IsRun kind) (runs_of values.now) × (length (runs_of values.now) < 2 ^ 32)) }
-    ensures length { IfSome result (λ n. n ≡ length (flat_map run_bytes (runs_of values.now))) }
+    ensures held { IsSome result ↔ (AllByRecursion (IsRun kind) (runs_of (present values.now)) × (length (runs_of (present values.now)) < 2 ^ 32)) }
+    ensures length { IfSome result (λ n. n ≡ length (flat_map run_bytes (runs_of (present values.now)))) }
     ensures small { IfSome result (λ n. n < 2 ^ 63) }
 {
     let mut runs = 0u32;
     let mut len = 0;
     let mut left = values;
-    'runs: while let [first, rest @ ..] = left {
-        let count = front_count(first, rest);
+    'runs: while let Some((first, rest)) = split_present(left) {
+        let (count, behind) = split_run(first, rest);
         if count > u16::MAX as usize || runs == u32::MAX {
             return None;
         }
         runs += 1;
         len += plain_len(first, kind)? + 2;
-        let (_, after) = left.split_at(count);
-        left = after;
+        left = behind;
     }
     Some(len)
 }
 
 /// How many runs there are.
 fn run_count(values: &[Value]) -> usize
-    ensures { result ≡ length (runs_of values.now) }
+    ensures { result ≡ length (runs_of (present values.now)) }
 {
     let mut runs = 0;
     let mut left = values;
-    'runs: while let [first, rest @ ..] = left {
-        let count = front_count(first, rest);
+    'runs: while let Some((first, rest)) = split_present(left) {
+        let (count, behind) = split_run(first, rest);
         runs += 1;
-        let (_, after) = left.split_at(count);
-        left = after;
+        left = behind;
     }
     runs
 }
 
 /// Appends the body.
 pub fn encode(values: &[Value], kind: ColType, out: &mut Vec<u8>) -> Result<(), OutOfMemory>
-    requires { HasRuns kind values.now }
-    ensures ok { OnOk result (out.new.items ≡ out.old.items ++ run_length_bytes values.now) }
+    requires { HasRuns kind (present values.now) }
+    ensures ok { OnOk result (out.new.items ≡ out.old.items ++ run_length_bytes (present values.now)) }
     ensures err { OnErr result (out.new.items ≡ out.old.items) }
 {
     let start = out.len();
@@ -104,8 +107,8 @@ pub fn encode(values: &[Value], kind: ColType, out: &mut Vec<u8>) -> Result<(), 
 }
 
 fn put_body(values: &[Value], kind: ColType, out: &mut Vec<u8>) -> Result<(), OutOfMemory>
-    requires { HasRuns kind values.now }
-    ensures ok { OnOk result (out.new.items ≡ out.old.items ++ run_length_bytes values.now) }
+    requires { HasRuns kind (present values.now) }
+    ensures ok { OnOk result (out.new.items ≡ out.old.items ++ run_length_bytes (present values.now)) }
     ensures front { take (vec_len out.old) out.new.items ≡ out.old.items }
 {
     put_u32(out, run_count(values) as u32)?;
@@ -113,17 +116,16 @@ fn put_body(values: &[Value], kind: ColType, out: &mut Vec<u8>) -> Result<(), Ou
 }
 
 fn put_runs(values: &[Value], kind: ColType, out: &mut Vec<u8>) -> Result<(), OutOfMemory>
-    requires { AllByRecursion (IsRun kind) (runs_of values.now) }
-    ensures ok { OnOk result (out.new.items ≡ out.old.items ++ flat_map run_bytes (runs_of values.now)) }
+    requires { AllByRecursion (IsRun kind) (runs_of (present values.now)) }
+    ensures ok { OnOk result (out.new.items ≡ out.old.items ++ flat_map run_bytes (runs_of (present values.now))) }
     ensures front { take (vec_len out.old) out.new.items ≡ out.old.items }
 {
     let mut left = values;
-    'runs: while let [first, rest @ ..] = left {
-        let count = front_count(first, rest);
+    'runs: while let Some((first, rest)) = split_present(left) {
+        let (count, behind) = split_run(first, rest);
         put_value(out, first, kind)?;
         put_u16(out, count as u16)?;
-        let (_, after) = left.split_at(count);
-        left = after;
+        left = behind;
     }
     Ok(())
 }

@@ -17,7 +17,8 @@ use Rattle.dk_seg_pack.specs.Bits.{byte_count, packed, numbers_in}
 use Rattle.dk_seg_pack.proofs.Digits.{length-digits}
 use Rattle.dk_seg_pack.proofs.Widths.{width_fits, width_most}
 use Rattle.dk_seg_pack.proofs.Inverse.{packed_again}
-use Rattle.dk_seg_text.specs.Dictionary.{text_of, is_entry, entries_of, codes_behind, code_width, entry_bytes, dictionary_bytes, IsDictionary, entry_at, entries_at, used_behind, are_all_used, text_with, texts_with, or_fault, codes_at, width_at, texts_at, dictionary_at}
+use Rattle.dk_seg_text.specs.Dictionary.{text_of, is_entry, entries_of, codes_behind, code_width, entry_bytes, dictionary_bytes, IsDictionary, entry_at, entries_at, used_behind, are_all_used, text_with, texts_with, codes_at, width_at, texts_at, dictionary_at}
+use Rattle.dk_seg_pack.specs.Packed.{or_fault}
 use Rattle.dk_seg_text.proofs.Codes.{grown, codes_below, fit_width}
 use Rattle.dk_seg_text.proofs.Measures.{codes_len, map_length}
 use Rattle.dk_seg_text.proofs.Distinct.{IsText, AreNew, extended, all_used, texts_back}

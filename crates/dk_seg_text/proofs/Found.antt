@@ -18,7 +18,8 @@ use Rattle.dk_bytes.proofs.Outcome.{whole_ok}
 use Rattle.dk_seg_pack.specs.Bits.{byte_count, numbers_in}
 use Rattle.dk_seg_pack.proofs.Ranks.{chosen}
 use Rattle.dk_seg_pack.proofs.Inverse.{found_packed}
-use Rattle.dk_seg_text.specs.Dictionary.{text_of, is_entry, with_entry, code_of, entries_behind, entries_of, codes_behind, code_width, entry_bytes, body_with, dictionary_bytes, IsDictionary, entry_at, entries_at, used_behind, are_all_used, text_with, texts_with, or_fault, codes_at, width_at, texts_at, is_text, dictionary_at}
+use Rattle.dk_seg_text.specs.Dictionary.{text_of, is_entry, with_entry, code_of, entries_behind, entries_of, codes_behind, code_width, entry_bytes, body_with, dictionary_bytes, IsDictionary, entry_at, entries_at, used_behind, are_all_used, text_with, texts_with, codes_at, width_at, texts_at, is_text, dictionary_at}
+use Rattle.dk_seg_pack.specs.Packed.{or_fault}
 use Rattle.dk_seg_text.proofs.Codes.{place_of}
 use Rattle.dk_seg_text.proofs.Distinct.{IsText, AreNew, front_item, next_item}
 

@@ -5,3 +5,4 @@ pub mod Measures
 pub mod Distinct
 pub mod Again
 pub mod Found
+pub mod TextsWithin

@@ -1,5 +1,5 @@
 -- Values read one behind the other.
-use Rattle.std.proofs.Common.{◌≡◌, ℕ, zero, suc, ◌+◌, ◌<◌, ◌≤◌, ◌^◌, length, drop, List, [], ◌∷◌, ◌++◌, Result, Ok, Err, refl, sym, ap, subst, ◌∙◌, append_assoc, append-nil, length-append, arith}
+use Rattle.std.proofs.Common.{◌≡◌, ℕ, zero, suc, ◌+◌, ◌<◌, ◌≤◌, ◌^◌, length, List, [], ◌∷◌, ◌++◌, Result, Ok, Err, refl, sym, ap, subst, ◌∙◌, append_assoc, append-nil, length-append, arith}
 use Rattle.std.specs.List.{AllByRecursion}
 use Rattle.dk_types.specs.declared.value.ColType.{ColType}
 use Rattle.dk_types.specs.declared.value.Value.{Value}
@@ -46,18 +46,11 @@ failed_value kind values m n p all e h at r =
     let next : with_front values (values_at kind (suc n) p) ≡ all = subst (λ (k : ℕ). with_front values (values_at kind k p) ≡ all) e h in
     sym (subst (λ (s : Result (Value × Place) ℕ). with_front values (s >>= λ x. values_at kind n x.1 >>= λ others. Ok (x.0 ∷ others.0, others.1)) ≡ all) r next)
 
-dropped : (values : List Value) (n : ℕ) → length values ≤ n → drop n values ≡ []
-dropped [] zero h = refl
-dropped [] (suc n) h = refl
-dropped (v ∷ values) zero h = absurd (omega arith)
-dropped (v ∷ values) (suc n) h = dropped values n (omega arith)
-
 -- where all values were looked at
-pub all_plain : (kind : ColType) (values : List Value) (n len : ℕ) → length values ≤ n → len < 2 ^ 64 → len + length (plain_body (drop n values)) ≡ length (plain_body values) → (AllByRecursion (IsPlain kind) (drop n values) → AllByRecursion (IsPlain kind) values) → ArePlain kind values
-all_plain kind values n len h fits told k =
-    let e = dropped values n h in
+pub all_plain : (kind : ColType) (values left : List Value) (len : ℕ) → left ≡ [] → len < 2 ^ 64 → len + length (plain_body left) ≡ length (plain_body values) → (AllByRecursion (IsPlain kind) left → AllByRecursion (IsPlain kind) values) → ArePlain kind values
+all_plain kind values left len e fits told k =
     let P : List Value → Type 0 = AllByRecursion (IsPlain kind) in
-    let none : length (plain_body (drop n values)) ≡ 0 = ap (λ (vs : List Value). length (plain_body vs)) e in
+    let none : length (plain_body left) ≡ 0 = ap (λ (vs : List Value). length (plain_body vs)) e in
     record { plain = k (subst P (sym e) tt); room = omega arith }
 
 -- what is read is what is written

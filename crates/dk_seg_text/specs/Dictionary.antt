@@ -10,6 +10,7 @@ use Rattle.dk_bytes.specs.Fields.{Place, bytes_at, number_at}
 use Rattle.dk_bytes.specs.PlainValue.{IsPlain, text_at}
 use Rattle.dk_bytes.specs.Reading.{◌>>=◌, start, whole}
 use Rattle.dk_seg_pack.specs.Bits.{bit_width, byte_count, packed, numbers_in}
+use Rattle.dk_seg_pack.specs.Packed.{or_fault}
 
 abbrev pub text_of : Value → List ℕ
 text_of (values.Text text) = text
@@ -95,10 +96,6 @@ abbrev pub texts_with : List (List ℕ) → Option (List ℕ) → Option (List V
 texts_with entries None = None
 texts_with entries (Some codes) =
     if are_all_used (length entries) (used_behind 0 codes) then Some (map (text_with entries) codes) else None
-
-abbrev pub or_fault : {A : Type 0} → ℕ → Option A → Result A ℕ
-or_fault at None = Err at
-or_fault at (Some x) = Ok x
 
 -- the codes; every fault of theirs is charged to their first byte
 unfoldable pub codes_at : List (List ℕ) → ℕ → ℕ → Place → Result (List Value × Place) ℕ

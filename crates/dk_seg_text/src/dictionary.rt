@@ -1,18 +1,21 @@
-//! The body has each different text once, in the order of first use, and for each value the number of its text.
+//! The body has each different text once, in the order of first use, and for each value the number of its text; nulls
+//! are passed over.
 
-ghost use Rattle.std.specs.Prelude.{◌≡◌, ◌++◌, ◌↔◌, ◌≤◌, ◌<◌, ◌+◌, ◌-◌, ◌^◌, ℕ, List, [], ◌∷◌, ◌*◌, Some, None, true, false, length, take, map, option_map, bytes_eq, Ok, IsSome, IsTrue, IfSome, IfOk, OnOk, OnErr};
+ghost use Rattle.std.specs.Prelude.{◌≡◌, ◌++◌, ◌↔◌, ◌≤◌, ◌<◌, ◌+◌, ◌-◌, ◌^◌, ℕ, List, [], ◌∷◌, ◌*◌, ◌&&◌, ◌||◌, not, Some, None, true, false, length, take, map, option_map, bytes_eq, Ok, IsSome, IsTrue, IfSome, IfOk, OnOk, OnErr};
 ghost use Rattle.std.specs.List.{AllByRecursion, flat_map, list_any};
 ghost use Rattle.dk_seg_pack.specs.Bits.{packed};
 ghost use Rattle.std.specs.Str.{is_utf8};
 ghost use Rattle.dk_types.specs.declared.value.Value.{Value};
 ghost use Rattle.dk_types.specs.declared.value.Value.TheVariants as values;
 ghost use Rattle.dk_types.specs.declared.value.ColType.TheVariants as types;
-ghost use Rattle.dk_bytes.specs.PlainValue.{IsPlain, text_at};
+ghost use Rattle.dk_bytes.specs.PlainValue.{IsPlain, is_present, present, text_at};
 ghost use Rattle.dk_bytes.specs.Reading.{Gives};
-ghost use Rattle.dk_seg_text.specs.Dictionary.{text_of, entries_of, codes_behind, code_width, entry_bytes, dictionary_bytes, IsDictionary, entry_at, entries_at, used_behind, are_all_used, text_with, texts_with, codes_at, width_at, texts_at, is_text, dictionary_at};
+ghost use Rattle.dk_seg_text.specs.Dictionary.{text_of, is_entry, entries_of, codes_behind, code_width, entry_bytes, dictionary_bytes, IsDictionary, entry_at, entries_at, used_behind, are_all_used, text_with, texts_with, codes_at, width_at, texts_at, is_text, dictionary_at};
 
 use crate::entries::Entries;
-use dk_bytes::{Cursor, SegError, plain_len, put_u8, put_u16};
+use dk_bytes::{
+    Cursor, SegError, is_present, plain_len, present_count, put_u8, put_u16, split_present,
+};
 use dk_seg_pack::numbers::{bit_width, byte_count, pack, take_packed, unpack};
 use dk_types::{ColType, List, OutOfMemory, Value};
 use std::alloc::Global;
@@ -46,46 +49,92 @@ fn code_width(entry_count: usize) -> u32
     bit_width(entry_count.saturating_sub(1) as u64)
 }
 
-/// How long the body of these values is, if they are texts of which at most 65,535 are different.
+/// How long the body of these values is, if they are texts of which at most 65,535 are different. It takes no memory, and
+/// so compares each text with those before it.
 #[tactic(auto, using(crate::proofs::Measures::dictionary_len))]
 pub fn size(values: &[Value], kind: ColType) -> Option<usize>
-    ensures held { IsSome result ↔ IsDictionary kind values.now }
-    ensures length { IfSome result (λ n. n ≡ length (dictionary_bytes values.now)) }
+    ensures held { IsSome result ↔ IsDictionary kind (present values.now) }
+    ensures length { IfSome result (λ n. n ≡ length (dictionary_bytes (present values.now))) }
 {
-    if values.is_empty() || !is_text(kind) || !are_texts(values) {
+    if !has_texts(values, kind) {
         return None;
     }
     let (count, len) = measure(values)?;
-    Some(3 + len + byte_count(code_width(count), values.len()) as usize)
+    Some(3 + len + byte_count(code_width(count), present_count(values)) as usize)
 }
 
-fn are_texts(values: &[Value]) -> bool
-    ensures { IsTrue result ↔ AllByRecursion (IsPlain types.Text) values.now }
+/// What `size` answers, in a time that grows with the bytes of the values alone.
+#[tactic(auto, using(crate::proofs::Measures::dictionary_len))]
+pub fn size_in(alloc: Global, values: &[Value], kind: ColType) -> Result<Option<usize>, OutOfMemory>
+    ensures held { IfOk result (λ size. IsSome size ↔ IsDictionary kind (present values.now)) }
+    ensures length { IfOk result (λ size. IfSome size (λ n. n ≡ length (dictionary_bytes (present values.now)))) }
 {
-    values
-        .iter()
-        .all(|value| plain_len(value, ColType::Text).is_some())
+    if !has_texts(values, kind) {
+        return Ok(None);
+    }
+    let Some((count, len)) = measure_in(alloc, values)? else {
+        return Ok(None);
+    };
+    Ok(Some(3 + len + byte_count(code_width(count), present_count(values)) as usize))
+}
+
+/// Whether these are texts, at least one.
+fn has_texts(values: &[Value], kind: ColType) -> bool
+    ensures { IsTrue result ↔ ((kind ≡ types.Text) × (0 < length (present values.now)) × AllByRecursion (IsPlain types.Text) (present values.now)) }
+{
+    present_count(values) > 0 && is_text(kind) && are_texts(values)
+}
+
+/// Whether all that are present are texts.
+fn are_texts(values: &[Value]) -> bool
+    ensures { IsTrue result ↔ AllByRecursion (IsPlain types.Text) (present values.now) }
+{
+    let mut left = values;
+    'values: while let Some((value, rest)) = split_present(left) {
+        if plain_len(value, ColType::Text).is_none() {
+            return false;
+        }
+        left = rest;
+    }
+    true
 }
 
 fn is_among(values: &[Value], text: &[u8]) -> bool
-    ensures { result ≡ list_any (λ value. bytes_eq text.now (text_of value)) values.now }
+    ensures { result ≡ list_any (λ value. is_present value && bytes_eq text.now (text_of value)) values.now }
 {
-    values.iter().any(|value| text == text_of(value))
+    values
+        .iter()
+        .any(|value| is_present(value) && text == text_of(value))
+}
+
+/// Whether the text is an entry of the values that are present.
+#[tactic(auto, using(crate::proofs::Measures::known_is))]
+fn is_entry(values: &[Value], text: &[u8]) -> bool
+    ensures { result ≡ is_entry (entries_of (map text_of (present values.now))) text.now }
+{
+    is_among(values, text)
+}
+
+/// Whether a value behind these brings no new text.
+fn brings_nothing(front: &[Value], value: &Value) -> bool
+    ensures { result ≡ (not (is_present value.now) || is_entry (entries_of (map text_of (present front.now))) (text_of value.now)) }
+{
+    !is_present(value) || is_entry(front, text_of(value))
 }
 
 /// How many different texts there are, and how many bytes they have with their lengths.
 fn measure(values: &[Value]) -> Option<(usize, usize)>
-    requires { AllByRecursion (IsPlain types.Text) values.now }
-    ensures held { IsSome result ↔ (length (entries_of (map text_of values.now)) < 2 ^ 16) }
-    ensures count { IfSome result (λ m. m.0 ≡ length (entries_of (map text_of values.now))) }
-    ensures length { IfSome result (λ m. m.1 ≡ length (flat_map entry_bytes (entries_of (map text_of values.now)))) }
+    requires { AllByRecursion (IsPlain types.Text) (present values.now) }
+    ensures held { IsSome result ↔ (length (entries_of (map text_of (present values.now))) < 2 ^ 16) }
+    ensures count { IfSome result (λ m. m.0 ≡ length (entries_of (map text_of (present values.now)))) }
+    ensures length { IfSome result (λ m. m.1 ≡ length (flat_map entry_bytes (entries_of (map text_of (present values.now))))) }
     ensures small { IfSome result (λ m. m.1 < 2 ^ 33) }
 {
     let mut count = 0usize;
     let mut len = 0usize;
     'values: for (i, value) in values.iter().enumerate() {
         let text = text_of(value);
-        let is_known = is_among(&values[..i], text);
+        let is_known = brings_nothing(&values[..i], value);
         let Some(more) = with_text(count, len, is_known, text) else {
             return None;
         };
@@ -93,6 +142,31 @@ fn measure(values: &[Value]) -> Option<(usize, usize)>
         len = more.1;
     }
     Some((count, len))
+}
+
+/// What `measure` answers; the texts so far are kept in a table.
+fn measure_in(alloc: Global, values: &[Value]) -> Result<Option<(usize, usize)>, OutOfMemory>
+    requires { AllByRecursion (IsPlain types.Text) (present values.now) }
+    ensures held { IfOk result (λ m. IsSome m ↔ (length (entries_of (map text_of (present values.now))) < 2 ^ 16)) }
+    ensures count { IfOk result (λ m. IfSome m (λ m. m.0 ≡ length (entries_of (map text_of (present values.now))))) }
+    ensures length { IfOk result (λ m. IfSome m (λ m. m.1 ≡ length (flat_map entry_bytes (entries_of (map text_of (present values.now)))))) }
+    ensures small { IfOk result (λ m. IfSome m (λ m. m.1 < 2 ^ 33)) }
+{
+    let mut entries = Entries::new(alloc);
+    let mut count = 0usize;
+    let mut len = 0usize;
+    let mut left = values;
+    'values: while let Some((value, rest)) = split_present(left) {
+        let text = text_of(value);
+        let is_known = !entries.add_new(text)?;
+        let Some(more) = with_text(count, len, is_known, text) else {
+            return Ok(None);
+        };
+        count = more.0;
+        len = more.1;
+        left = rest;
+    }
+    Ok(Some((count, len)))
 }
 
 /// The number of texts and of their bytes with one more text, if it is a new one, and if there may be one more.
@@ -115,8 +189,8 @@ fn with_text(count: usize, len: usize, is_known: bool, text: &[u8]) -> Option<(u
 
 /// Appends the body.
 pub fn encode(values: &[Value], kind: ColType, out: &mut Vec<u8>) -> Result<(), OutOfMemory>
-    requires { IsDictionary kind values.now }
-    ensures ok { OnOk result (out.new.items ≡ out.old.items ++ dictionary_bytes values.now) }
+    requires { IsDictionary kind (present values.now) }
+    ensures ok { OnOk result (out.new.items ≡ out.old.items ++ dictionary_bytes (present values.now)) }
     ensures err { OnErr result (out.new.items ≡ out.old.items) }
 {
     let before = out.len();
@@ -129,7 +203,7 @@ pub fn encode(values: &[Value], kind: ColType, out: &mut Vec<u8>) -> Result<(), 
 
 /// Appends the body. Without memory a part of it may have been appended.
 fn put_body(values: &[Value], out: &mut Vec<u8>) -> Result<(), OutOfMemory>
-    ensures ok { OnOk result (out.new.items ≡ out.old.items ++ dictionary_bytes values.now) }
+    ensures ok { OnOk result (out.new.items ≡ out.old.items ++ dictionary_bytes (present values.now)) }
     ensures kept { take (length out.old.items) out.new.items ≡ out.old.items }
 {
     let (entries, codes) = coded(*out.allocator(), values)?;
@@ -151,14 +225,16 @@ fn put_codes(out: &mut Vec<u8>, entry_count: usize, codes: &[u64]) -> Result<(),
 
 /// The entries and the codes of these values.
 fn coded<'a>(alloc: Global, values: &'a [Value]) -> Result<(Entries<'a>, Vec<u64>), OutOfMemory>
-    ensures entries { IfOk result (λ c. c.0 ≡ entries_of (map text_of values.now)) }
-    ensures codes { IfOk result (λ c. c.1.items ≡ codes_behind [] (map text_of values.now)) }
+    ensures entries { IfOk result (λ c. c.0 ≡ entries_of (map text_of (present values.now))) }
+    ensures codes { IfOk result (λ c. c.1.items ≡ codes_behind [] (map text_of (present values.now))) }
 {
     let mut entries = Entries::new(alloc);
     let mut codes = Vec::with_capacity(alloc, values.len())?;
-    'values: for value in values {
+    let mut left = values;
+    'values: while let Some((value, rest)) = split_present(left) {
         let code = entries.add(text_of(value))?;
         codes.push(code as u64)?;
+        left = rest;
     }
     Ok((entries, codes))
 }

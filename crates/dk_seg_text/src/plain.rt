@@ -1,33 +1,35 @@
-//! The body has the values one behind the other.
+//! The body has the values one behind the other; nulls are passed over.
 
 ghost use Rattle.std.specs.Prelude.{◌≡◌, ◌++◌, ◌↔◌, List, length, take, Ok, IsSome, IfSome, IfOk, OnOk, OnErr};
 ghost use Rattle.std.specs.List.{AllByRecursion};
 ghost use Rattle.dk_types.specs.declared.value.Value.{Value};
-ghost use Rattle.dk_bytes.specs.PlainValue.{IsPlain};
+ghost use Rattle.dk_bytes.specs.PlainValue.{IsPlain, present};
 ghost use Rattle.dk_bytes.specs.Reading.{Gives};
 ghost use Rattle.dk_seg_text.specs.Plain.{ArePlain, plain_body, values_at, plain_at};
 
-use dk_bytes::{Cursor, SegError, plain_len, put_value, read_value};
+use dk_bytes::{Cursor, SegError, plain_len, put_value, read_value, split_present};
 use dk_types::{ColType, OutOfMemory, Value};
 use std::alloc::Global;
 
 /// How long the body of these values is, if all are of the type.
 pub fn size(values: &[Value], kind: ColType) -> Option<usize>
-    ensures held { IsSome result ↔ ArePlain kind values.now }
-    ensures length { IfSome result (λ n. n ≡ length (plain_body values.now)) }
+    ensures held { IsSome result ↔ ArePlain kind (present values.now) }
+    ensures length { IfSome result (λ n. n ≡ length (plain_body (present values.now))) }
 {
     let mut len = 0usize;
-    'values: for value in values {
+    let mut left = values;
+    'values: while let Some((value, rest)) = split_present(left) {
         let more = plain_len(value, kind)?;
         len = len.checked_add(more)?;
+        left = rest;
     }
     Some(len)
 }
 
 /// Appends the body.
 pub fn encode(values: &[Value], kind: ColType, out: &mut Vec<u8>) -> Result<(), OutOfMemory>
-    requires { ArePlain kind values.now }
-    ensures ok { OnOk result (out.new.items ≡ out.old.items ++ plain_body values.now) }
+    requires { ArePlain kind (present values.now) }
+    ensures ok { OnOk result (out.new.items ≡ out.old.items ++ plain_body (present values.now)) }
     ensures err { OnErr result (out.new.items ≡ out.old.items) }
 {
     let before = out.len();
@@ -44,12 +46,14 @@ pub(crate) fn put_values(
     kind: ColType,
     out: &mut Vec<u8>,
 ) -> Result<(), OutOfMemory>
-    requires { AllByRecursion (IsPlain kind) values.now }
-    ensures ok { OnOk result (out.new.items ≡ out.old.items ++ plain_body values.now) }
+    requires { AllByRecursion (IsPlain kind) (present values.now) }
+    ensures ok { OnOk result (out.new.items ≡ out.old.items ++ plain_body (present values.now)) }
     ensures kept { take (length out.old.items) out.new.items ≡ out.old.items }
 {
-    'values: for value in values {
+    let mut left = values;
+    'values: while let Some((value, rest)) = split_present(left) {
         put_value(out, value, kind)?;
+        left = rest;
     }
     Ok(())
 }

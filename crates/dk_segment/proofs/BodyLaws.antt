@@ -1,8 +1,6 @@
 -- What holds of the body of every encoding.
 use Rattle.std.proofs.Common.{◌≡◌, ℕ, zero, suc, ◌+◌, ◌^◌, ◌<◌, ◌≤◌, Bool, true, false, List, [], ◌∷◌, ◌++◌, length, Result, Ok, Err, refl, sym, ap, subst, ◌∙◌, arith, replicate, cond, eqb}
-use Rattle.std.specs.Prelude.{All}
 use Rattle.std.specs.List.{AllByRecursion, flat_map}
-use Rattle.std.proofs.lemmas.List.Elements.{recursion_from_All}
 use Rattle.dk_types.specs.declared.value.ColType.{ColType}
 use Rattle.dk_types.specs.declared.value.ColType.TheVariants as types
 use Rattle.dk_types.specs.declared.value.Value.{Value}
@@ -17,6 +15,14 @@ use Rattle.dk_seg_pack.proofs.Reading as packs
 use Rattle.dk_seg_text.proofs.Values as plains
 use Rattle.dk_seg_text.proofs.Found as dictionaries
 use Rattle.dk_seg_text.proofs.Again as written
+use Rattle.std.specs.Prelude.{IfErr}
+use Rattle.dk_bytes.specs.declared.segment_error.SegError.{SegError}
+use Rattle.dk_bytes.specs.declared.segment_error.SegError.TheVariants.{Malformed}
+use Rattle.dk_bytes.specs.Reading.{FailsAt, Gives}
+use Rattle.dk_bytes.proofs.Within.{FailsBy}
+use Rattle.dk_seg_run.proofs.RunsWithin.{constant_within, runs_within_body}
+use Rattle.dk_seg_pack.proofs.PackedWithin.{packed_within}
+use Rattle.dk_seg_text.proofs.TextsWithin.{plain_within, dictionary_within}
 use Rattle.dk_segment.specs.declared.encoding.Encoding.{Encoding}
 use Rattle.dk_segment.specs.declared.encoding.Encoding.TheVariants.{Constant, RunLength, Packed, Dictionary, Plain}
 use Rattle.dk_segment.specs.Bodies.{Holds, body_of, body_at, goes_with, is_plain}
@@ -41,6 +47,23 @@ body_only Packed kind count bytes values len h e = packs.body_only kind count by
 body_only Dictionary kind count bytes values len h e = written.body_only kind count bytes values len h e
 body_only Plain kind count bytes values len h e = plains.body_only kind count bytes values len h e
 
+-- a fault stands at most at the body's end
+body_within : (encoding : Encoding) (kind : ColType) (count : ℕ) (bytes : List ℕ) → FailsBy (length bytes) (body_at encoding kind count bytes)
+body_within Constant kind count bytes = constant_within kind count bytes
+body_within RunLength kind count bytes = runs_within_body kind count bytes
+body_within Packed kind count bytes = packed_within kind count bytes
+body_within Dictionary kind count bytes = dictionary_within kind count bytes
+body_within Plain kind count bytes = plain_within kind count bytes
+
+fault_by : {A : Type 0} (end at : ℕ) (reading : Result A ℕ) → FailsBy end reading → reading ≡ Err at → at ≤ end
+fault_by {A} end at reading h e = let P : Result A ℕ → Type 0 = λ r. FailsBy end r in subst P e h
+
+pub place_within : {X : Type 0} (view : X → List Value) (result : Result X SegError) (encoding : Encoding) (kind : ColType) (count : ℕ) (bytes : List ℕ) → Gives view result (body_at encoding kind count bytes)
+    → IfErr result (λ e. (at : ℕ) → e ≡ Malformed at → at ≤ length bytes)
+place_within view (Ok x) encoding kind count bytes g = tt
+place_within view (Err e) encoding kind count bytes g = λ at is.
+    fault_by (length bytes) at (body_at encoding kind count bytes) (body_within encoding kind count bytes) (subst (λ (f : SegError). FailsAt f (body_at encoding kind count bytes)) is g)
+
 -- ---- the values that are held
 
 all_same : (kind : ColType) (value : Value) (values : List Value) → IsPlain kind value → AllByRecursion (λ other. other ≡ value) values → AllByRecursion (IsPlain kind) values
@@ -49,7 +72,7 @@ all_same kind value (v ∷ vs) p h = (subst (λ (u : Value). IsPlain kind u) (sy
 
 constant_plain : (kind : ColType) (values : List Value) → Holds Constant kind values → AllByRecursion (IsPlain kind) values
 constant_plain kind [] h = absurd h
-constant_plain kind (v ∷ vs) h = (h.0, all_same kind v vs h.0 (recursion_from_All (λ other. other ≡ v) vs h.1))
+constant_plain kind (v ∷ vs) h = (h.0, all_same kind v vs h.0 h.1)
 
 copies_plain : (kind : ColType) (n : ℕ) (value : Value) (others : List Value) → IsPlain kind value → AllByRecursion (IsPlain kind) others → AllByRecursion (IsPlain kind) (replicate n value ++ others)
 copies_plain kind zero value others p h = h

@@ -9,7 +9,9 @@ use Rattle.dk_types.specs.declared.value.Value.TheVariants as cell
 use Rattle.dk_bytes.specs.PlainValue.{IsPlain, plain_bytes}
 use Rattle.dk_segment.specs.declared.encoding.Encoding.TheVariants.{Plain}
 use Rattle.dk_segment.specs.Bodies.{Holds}
-use Rattle.dk_segment.specs.Segment.{IsColumn, present}
+use Rattle.dk_segment.specs.Segment.{IsColumn}
+use Rattle.dk_bytes.specs.PlainValue.{present}
+use Rattle.dk_bytes.proofs.Presence.{present_few}
 use Rattle.dk_segment.proofs.NullLaws.{cells_plain}
 
 value_small : (kind : ColType) (value : Value) → IsPlain kind value → length (plain_bytes value) ≤ 65537
@@ -22,11 +24,6 @@ value_small kind value h = omega arith
 values_small : (kind : ColType) (values : List Value) → AllByRecursion (IsPlain kind) values → length (flat_map plain_bytes values) ≤ 65537 * length values
 values_small kind [] h = omega arith
 values_small kind (v ∷ vs) h = omega (arith, value_small kind v h.0, values_small kind vs h.1, length-append (plain_bytes v) (flat_map plain_bytes vs))
-
-present_few : (values : List Value) → length (present values) ≤ length values
-present_few [] = omega arith
-present_few (cell.Null ∷ vs) = omega (arith, present_few vs)
-present_few (v ∷ vs) = omega (arith, present_few vs)
 
 -- the plain bytes of a column's present values can be counted
 pub column_small : (kind : ColType) (values : List Value) → IsColumn kind values → length (flat_map plain_bytes (present values)) < 2 ^ 64

@@ -21,7 +21,8 @@ use Rattle.dk_seg_pack.proofs.Inverse.{packed_again, found_packed}
 use Rattle.dk_segment.specs.declared.encoding.Encoding.{Encoding}
 use Rattle.dk_segment.specs.declared.encoding.Encoding.TheVariants.{Constant, RunLength, Packed, Dictionary, Plain}
 use Rattle.dk_segment.specs.Bodies.{Holds, body_of, body_at, code_of, encoding_of, known, goes_with, is_plain}
-use Rattle.dk_segment.specs.Segment.{is_present, present, flags_of, ones, with_nulls, mask_flag, mask_bytes, segment_bytes, IsSegment, encoding_at, flag_at, count_at, mask_of, flags_at, moved, masked_at, values_at, segment_at}
+use Rattle.dk_segment.specs.Segment.{flags_of, ones, with_nulls, mask_flag, mask_bytes, segment_bytes, IsSegment, encoding_at, flag_at, count_at, mask_of, flags_at, moved, masked_at, values_at, segment_at}
+use Rattle.dk_bytes.specs.PlainValue.{is_present, present}
 use Rattle.dk_segment.proofs.BodyLaws.{IsBodyOf, body_found, body_only, holds_plain, holds_goes, holds_some}
 use Rattle.dk_segment.proofs.NullLaws.{all_present, null_flag, flag_null, ones_flags, present_flag, flags_fit, placed_again, length-flags, plain_all_present, IsMadeOf, made_of}
 

@@ -1,12 +1,12 @@
 -- Which bytes are a segment, and of which values.
-use Rattle.std.specs.Prelude.{◌≡◌, ℕ, ◌+◌, ◌-◌, ◌*◌, ◌^◌, ◌≤◌, min, Bool, true, false, ◌&&◌, ◌||◌, not, List, [], ◌∷◌, ◌++◌, length, map, filter, count_by, Option, Some, None, Result, Ok, Err, ◌==◌, nat_lt, nat_le, if◌then◌else◌}
+use Rattle.std.specs.Prelude.{◌≡◌, ℕ, ◌+◌, ◌-◌, ◌*◌, ◌≤◌, Bool, true, false, ◌&&◌, ◌||◌, not, List, [], ◌∷◌, ◌++◌, length, map, count_by, Option, Some, None, Result, Ok, Err, ◌==◌, nat_lt, nat_le, if◌then◌else◌}
 use Rattle.std.specs.List.{AllByRecursion, list_all, list_any}
 use Rattle.std.specs.Int.{w8, w32, to_le_bytes}
 use Rattle.dk_types.specs.declared.value.ColType.{ColType}
 use Rattle.dk_types.specs.declared.value.Value.{Value}
 use Rattle.dk_types.specs.declared.value.Value.TheVariants as cell
 use Rattle.dk_bytes.specs.Fields.{Place, bytes_at, number_at}
-use Rattle.dk_bytes.specs.PlainValue.{IsPlain}
+use Rattle.dk_bytes.specs.PlainValue.{IsPlain, is_present, present}
 use Rattle.dk_bytes.specs.Reading.{◌>>=◌, start}
 use Rattle.dk_seg_pack.specs.Bits.{byte_count, packed, numbers_in}
 use Rattle.dk_seg_pack.specs.Packed.{or_fault}
@@ -14,13 +14,6 @@ use Rattle.dk_segment.specs.declared.encoding.Encoding.{Encoding}
 use Rattle.dk_segment.specs.Bodies.{Holds, body_of, body_at, code_of, encoding_of, goes_with, is_plain}
 
 -- ---- values with nulls among them
-
-abbrev pub is_present : Value → Bool
-is_present cell.Null = false
-is_present value = true
-
-abbrev pub present : List Value → List Value
-present values = filter is_present values
 
 -- null, or a value of the type
 abbrev pub IsCell : ColType → Value → Type 0
@@ -102,10 +95,10 @@ flags_at encoding count place = do
   flags ← or_fault place.at (mask_of encoding (numbers_in 1 count bytes.0))
   Ok (flags, bytes.1)
 
--- a reading that begins so many bytes behind the start; a place has 64 bits
+-- a reading that begins so many bytes behind the start
 abbrev pub moved : {A : Type 0} → ℕ → Result A ℕ → Result A ℕ
 moved n (Ok x) = Ok x
-moved n (Err at) = Err (min (n + at) (2 ^ 64 - 1))
+moved n (Err at) = Err (n + at)
 
 unfoldable pub masked_at : Encoding → ColType → ℕ → Place → Result (List Value) ℕ
 masked_at encoding kind count place = do

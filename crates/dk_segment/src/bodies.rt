@@ -1,5 +1,7 @@
-ghost use Rattle.std.specs.Prelude.{◌≡◌, ◌++◌, ◌↔◌, length, IsSome, IfSome, OnOk, OnErr};
+ghost use Rattle.std.specs.Prelude.{◌≡◌, ◌++◌, ◌↔◌, ◌≤◌, ℕ, length, IsSome, IfErr, IfSome, OnOk};
+ghost use Rattle.dk_bytes.specs.PlainValue.{present};
 ghost use Rattle.dk_bytes.specs.Reading.{Gives};
+ghost use Rattle.dk_bytes.specs.declared.segment_error.SegError.TheVariants.{Malformed};
 ghost use Rattle.dk_segment.specs.Bodies.{Holds, body_of, body_at};
 
 use crate::encoding::Encoding;
@@ -12,8 +14,8 @@ use std::alloc::Global;
 
 /// How long the body of the present values is, if the encoding can hold them.
 pub(crate) fn body_size(encoding: Encoding, values: &[Value], kind: ColType) -> Option<usize>
-    ensures held { IsSome result ↔ Holds encoding kind values.now }
-    ensures length { IfSome result (λ n. n ≡ length (body_of encoding values.now)) }
+    ensures held { IsSome result ↔ Holds encoding kind (present values.now) }
+    ensures length { IfSome result (λ n. n ≡ length (body_of encoding (present values.now))) }
 {
     match encoding {
         Encoding::Constant => constant::size(values, kind),
@@ -31,8 +33,8 @@ pub(crate) fn put_body(
     kind: ColType,
     out: &mut Vec<u8>,
 ) -> Result<(), OutOfMemory>
-    requires { Holds encoding kind values.now }
-    ensures { OnOk result (out.new.items ≡ out.old.items ++ body_of encoding values.now) }
+    requires { Holds encoding kind (present values.now) }
+    ensures { OnOk result (out.new.items ≡ out.old.items ++ body_of encoding (present values.now)) }
 {
     match encoding {
         Encoding::Constant => constant::encode(values, kind, out),
@@ -43,8 +45,22 @@ pub(crate) fn put_body(
     }
 }
 
-/// The present values that a body stands for.
+/// The present values that a body stands for; a fault stands at most at the body's end.
+#[tactic(auto, using(crate::proofs::BodyLaws::place_within))]
 pub(crate) fn read_body(
+    alloc: Global,
+    encoding: Encoding,
+    bytes: &[u8],
+    kind: ColType,
+    count: usize,
+) -> Result<Vec<Value>, SegError>
+    ensures place { Gives (λ v. v.items) result (body_at encoding kind count bytes.now) }
+    ensures within { IfErr result (λ e. (at : ℕ) → e ≡ Malformed at → at ≤ length bytes.now) }
+{
+    read(alloc, encoding, bytes, kind, count)
+}
+
+fn read(
     alloc: Global,
     encoding: Encoding,
     bytes: &[u8],

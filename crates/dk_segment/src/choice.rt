@@ -1,13 +1,12 @@
-ghost use Rattle.std.specs.Prelude.{◌≡◌, ◌+◌, length, IfOk};
+ghost use Rattle.std.specs.Prelude.{◌≡◌, ◌+◌, ◌↔◌, length, IsSome, IfSome};
 ghost use Rattle.dk_segment.specs.Bodies.{Holds, body_of};
 ghost use Rattle.dk_segment.specs.Choice.{IsBest, IsBestFrom, place_of};
-ghost use Rattle.dk_segment.specs.Segment.{IsColumn, present};
+ghost use Rattle.dk_segment.specs.Segment.{IsColumn};
+ghost use Rattle.dk_bytes.specs.PlainValue.{present};
 
 use crate::bodies::body_size;
 use crate::encoding::Encoding;
-use crate::present::{are_present, present_values};
-use dk_types::{ColType, OutOfMemory, Value};
-use std::alloc::Global;
+use dk_types::{ColType, Value};
 
 /// An encoding that holds the values, and the length of their body.
 #[derive(Clone, Copy)]
@@ -16,22 +15,20 @@ pub(crate) struct Choice {
     pub(crate) size: usize,
 }
 
-/// The encoding of least size, ties to the first. It takes memory where nulls stand among the values.
-pub fn analyse(alloc: Global, values: &[Value], kind: ColType) -> Result<Encoding, OutOfMemory>
+/// The encoding of least size for the values that are present, ties to the first.
+pub fn analyse(values: &[Value], kind: ColType) -> Encoding
     requires { IsColumn kind values.now }
-    ensures { IfOk result (λ encoding. IsBest kind (present values.now) encoding) }
+    ensures { IsBest kind (present values.now) result }
 {
-    if are_present(values) {
-        return Ok(best(values, kind));
-    }
-    let present = present_values(alloc, values)?;
-    Ok(best(present.as_slice(), kind))
+    best(values, kind, body_size(Encoding::Dictionary, values, kind))
 }
 
-/// The encoding of least size for values that are all present.
-pub(crate) fn best(values: &[Value], kind: ColType) -> Encoding
-    requires { Holds Encoding.Plain kind values.now }
-    ensures { IsBest kind values.now result }
+/// The encoding of least size, where the length of a dictionary is known.
+pub(crate) fn best(values: &[Value], kind: ColType, dictionary: Option<usize>) -> Encoding
+    requires plain { Holds Encoding.Plain kind (present values.now) }
+    requires held { IsSome dictionary ↔ Holds Encoding.Dictionary kind (present values.now) }
+    requires length { IfSome dictionary (λ n. n ≡ length (body_of Encoding.Dictionary (present values.now))) }
+    ensures { IsBest kind (present values.now) result }
 {
     let Some(size) = body_size(Encoding::Plain, values, kind) else {
         unreachable!();
@@ -40,20 +37,44 @@ pub(crate) fn best(values: &[Value], kind: ColType) -> Encoding
         encoding: Encoding::Plain,
         size,
     };
-    let choice = better(last, Encoding::Dictionary, values, kind);
-    let choice = better(choice, Encoding::Packed, values, kind);
-    let choice = better(choice, Encoding::RunLength, values, kind);
-    better(choice, Encoding::Constant, values, kind).encoding
+    let choice = better(last, Encoding::Dictionary, dictionary, values, kind);
+    let choice = with_one_more(choice, Encoding::Packed, values, kind);
+    let choice = with_one_more(choice, Encoding::RunLength, values, kind);
+    with_one_more(choice, Encoding::Constant, values, kind).encoding
 }
 
-/// Of a choice among the later encodings and one more, the one of less size; a tie goes to the one more.
-fn better(choice: Choice, encoding: Encoding, values: &[Value], kind: ColType) -> Choice
-    requires best { IsBestFrom (place_of encoding + 1) kind values.now choice.encoding }
-    requires size { choice.size ≡ length (body_of choice.encoding values.now) }
-    ensures best { IsBestFrom (place_of encoding) kind values.now result.encoding }
-    ensures size { result.size ≡ length (body_of result.encoding values.now) }
+fn with_one_more(choice: Choice, encoding: Encoding, values: &[Value], kind: ColType) -> Choice
+    requires best { IsBestFrom (place_of encoding + 1) kind (present values.now) choice.encoding }
+    requires size { choice.size ≡ length (body_of choice.encoding (present values.now)) }
+    ensures best { IsBestFrom (place_of encoding) kind (present values.now) result.encoding }
+    ensures size { result.size ≡ length (body_of result.encoding (present values.now)) }
 {
-    match body_size(encoding, values, kind) {
+    better(
+        choice,
+        encoding,
+        body_size(encoding, values, kind),
+        values,
+        kind,
+    )
+}
+
+/// Of a choice among the later encodings and one more, the one of less size; a tie goes to the one more. The values are
+/// those that both have to hold.
+fn better(
+    choice: Choice,
+    encoding: Encoding,
+    size: Option<usize>,
+    values: &[Value],
+    kind: ColType,
+) -> Choice
+    requires best { IsBestFrom (place_of encoding + 1) kind (present values.now) choice.encoding }
+    requires size { choice.size ≡ length (body_of choice.encoding (present values.now)) }
+    requires held { IsSome size ↔ Holds encoding kind (present values.now) }
+    requires length { IfSome size (λ n. n ≡ length (body_of encoding (present values.now))) }
+    ensures best { IsBestFrom (place_of encoding) kind (present values.now) result.encoding }
+    ensures size { result.size ≡ length (body_of result.encoding (present values.now)) }
+{
+    match size {
         Some(size) if size <= choice.size => Choice { encoding, size },
         _ => choice,
     }

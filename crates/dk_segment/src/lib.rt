@@ -2,7 +2,7 @@
 //!
 //! `specs/Segment.antt` says which byte strings are segments of a type, and of which values; `decode` answers those
 //! values for exactly these strings, and the place of the first fault for all others. `encode` writes the encoding of
-//! least size, ties to the first of `Encoding`. Stands on the crates of the encodings, `dk_bytes` and `dk_types`.
+//! least size that `analyse` names, ties to the first of `Encoding`. Stands on the crates of the encodings, `dk_bytes` and `dk_types`.
 #![tactic(auto)]
 
 mod bodies;

@@ -1,35 +1,20 @@
-ghost use Rattle.std.specs.Prelude.{◌≡◌, ◌↔◌, true, map, IsTrue, IfOk};
+ghost use Rattle.std.specs.Prelude.{◌≡◌, ◌↔◌, map, IsTrue, IfOk};
 ghost use Rattle.std.specs.List.{AllByRecursion, list_all};
-ghost use Rattle.dk_segment.specs.Segment.{IsCell, IsColumn, is_present, present, flag_of, flags_of, with_nulls};
+ghost use Rattle.dk_bytes.specs.PlainValue.{is_present};
+ghost use Rattle.dk_segment.specs.Segment.{IsCell, IsColumn, flag_of, flags_of, with_nulls};
 
-use dk_bytes::{copy_value, plain_len};
+use dk_bytes::{is_present, plain_len};
 use dk_types::{ColType, OutOfMemory, Value};
 use std::alloc::Global;
 
 /// The most values of a segment.
 pub(crate) const MAX_VALUES: usize = 2048;
 
-pub(crate) fn is_present(value: &Value) -> bool
-    ensures { result ≡ is_present value.now }
-{
-    match value {
-        Value::Null => false,
-        _ => true,
-    }
-}
-
-fn all_pass(values: &[Value]) -> bool
-    ensures { result ≡ list_all is_present values.now }
-{
-    values.iter().all(is_present)
-}
-
 /// Whether no null is among the values.
 pub(crate) fn are_present(values: &[Value]) -> bool
-    ensures test { result ≡ list_all is_present values.now }
-    ensures same { result ≡ true → present values.now ≡ values.now }
+    ensures { result ≡ list_all is_present values.now }
 {
-    all_pass(values)
+    values.iter().all(|value| is_present(value))
 }
 
 fn is_cell(value: &Value, kind: ColType) -> bool
@@ -57,19 +42,6 @@ pub fn is_column(values: &[Value], kind: ColType) -> bool
     ensures { IsTrue result ↔ IsColumn kind values.now }
 {
     !values.is_empty() && values.len() <= MAX_VALUES && are_cells(values, kind)
-}
-
-/// Copies of the values that are present.
-pub(crate) fn present_values(alloc: Global, values: &[Value]) -> Result<Vec<Value>, OutOfMemory>
-    ensures { IfOk result (λ copies. copies.items ≡ present values.now) }
-{
-    let mut copies = Vec::new(alloc);
-    'values: for value in values {
-        if is_present(value) {
-            copies.push(copy_value(alloc, value)?)?;
-        }
-    }
-    Ok(copies)
 }
 
 /// A number 1 for each value that is present, and 0 for each null.

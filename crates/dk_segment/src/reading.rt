@@ -89,10 +89,10 @@ fn read_behind(
     let start = cursor.at();
     let left = cursor.left();
     let bytes = cursor.take(left)?;
+    // The end has a place, and so has each fault before it.
+    let _end = cursor.at();
     match read_body(alloc, encoding, bytes, kind, count) {
-        Err(SegError::Malformed { at }) => Err(SegError::Malformed {
-            at: start.saturating_add(at),
-        }),
+        Err(SegError::Malformed { at }) => Err(SegError::Malformed { at: start + at }),
         read => read,
     }
 }

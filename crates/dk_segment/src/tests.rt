@@ -1,4 +1,4 @@
-use crate::{decode, encode, is_column};
+use crate::{Encoding, analyse, decode, encode, is_column};
 use dk_bytes::SegError;
 use dk_types::{ColType, List, Value};
 use std::process::Abort;
@@ -144,6 +144,108 @@ fn widths(rt: HostRuntime) -> Result<(), Fail> {
     Ok(())
 }
 
+/// So many whole numbers from 0 on take so many bytes, and are read back.
+fn counts_up<R: AllocGlobal + Abort>(rt: &R, count: i32, len: usize) -> Result<(), Fail> {
+    let mut values = Vec::new(rt.alloc());
+    for number in 0..count {
+        values.push(Value::Int(number))?;
+    }
+    has_len(rt, &values, ColType::Int, len)
+}
+
+#[test]
+fn counts(rt: HostRuntime) -> Result<(), Fail> {
+    for (count, len) in [(1, 10), (2, 14), (2047, 2830), (2048, 2831)] {
+        counts_up(&rt, count, len)?;
+    }
+    let mut values = Vec::new(rt.alloc());
+    assert!(rt; !is_column(&values, ColType::Int));
+    for _ in 0..2049u32 {
+        values.push(Value::Null)?;
+    }
+    assert!(rt; !is_column(&values, ColType::Int));
+    Ok(())
+}
+
+#[test]
+fn nulls(rt: HostRuntime) -> Result<(), Fail> {
+    comes_back(
+        &rt,
+        &[Value::Null, Value::Int(7)],
+        ColType::Int,
+        &[1, 1, 2, 0, 0, 0, 2, 7, 0, 0, 0],
+    )?;
+    comes_back(
+        &rt,
+        &[Value::Int(7), Value::Null],
+        ColType::Int,
+        &[1, 1, 2, 0, 0, 0, 1, 7, 0, 0, 0],
+    )?;
+    let texts = [
+        Value::Null,
+        text(&rt, b"ab")?,
+        Value::Null,
+        text(&rt, b"")?,
+        text(&rt, b"ab")?,
+    ];
+    // A dictionary and the plain texts take ten bytes each, and the dictionary goes first.
+    comes_back(
+        &rt,
+        &texts,
+        ColType::Text,
+        &[4, 1, 5, 0, 0, 0, 26, 2, 0, 2, 0, 97, 98, 0, 0, 1, 2],
+    )
+}
+
+/// The bytes are read as these values, which may also be written otherwise.
+fn stands_for<R: AllocGlobal + Abort>(rt: &R, bytes: &[u8], values: &[Value]) -> Result<(), Fail> {
+    let read = decode(rt.alloc(), bytes, ColType::Big)?;
+    assert_eq!(rt; read.as_slice(), values);
+    Ok(())
+}
+
+#[test]
+fn ends_of_widths(rt: HostRuntime) -> Result<(), Fail> {
+    stands_for(
+        &rt,
+        &[3, 0, 2, 0, 0, 0, 5, 0, 0, 0, 0, 0, 0, 0, 0],
+        &[Value::Big(5), Value::Big(5)],
+    )?;
+    let ends = [Value::Big(i64::MIN), Value::Big(i64::MAX)];
+    let packed = [
+        3, 0, 2, 0, 0, 0, 0, 0, 0, 0, 0, 0, 0, 128, 64, 0, 0, 0, 0, 0, 0, 0, 0, 255, 255, 255, 255,
+        255, 255, 255, 255,
+    ];
+    stands_for(&rt, &packed, &ends)?;
+    let plain = [
+        0, 0, 2, 0, 0, 0, 0, 0, 0, 0, 0, 0, 0, 128, 255, 255, 255, 255, 255, 255, 255, 127,
+    ];
+    comes_back(&rt, &ends, ColType::Big, &plain)
+}
+
+fn is_best(rt: &impl Abort, values: &[Value], kind: ColType, encoding: Encoding) {
+    assert!(rt; is_column(values, kind));
+    assert_eq!(rt; analyse(values, kind), encoding);
+}
+
+#[test]
+fn best_encodings(rt: HostRuntime) -> Result<(), Fail> {
+    let near = [Value::Big(10), Value::Null, Value::Big(13)];
+    is_best(&rt, &near, ColType::Big, Encoding::Packed);
+    is_best(&rt, &[Value::Null], ColType::Big, Encoding::Plain);
+    let one = [Value::Null, Value::Bool(true)];
+    is_best(&rt, &one, ColType::Bool, Encoding::Constant);
+    let many = [
+        text(&rt, b"x")?,
+        text(&rt, b"x")?,
+        Value::Null,
+        text(&rt, b"x")?,
+        text(&rt, b"y")?,
+    ];
+    is_best(&rt, &many, ColType::Text, Encoding::Dictionary);
+    Ok(())
+}
+
 #[test]
 fn first_faults(rt: HostRuntime) {
     let faults: [(&[u8], u64); 13] = [
@@ -167,7 +269,22 @@ fn first_faults(rt: HostRuntime) {
     }
 }
 
-/// Cut anywhere, or with a bit turned, the bytes are refused within them or stand for a column.
+/// The bytes are refused within them, or stand for a column that is written as these bytes or in another encoding.
+fn is_lawful<R: AllocGlobal + Abort>(rt: &R, bytes: &[u8], kind: ColType) -> Result<(), Fail> {
+    let values = match decode(rt.alloc(), bytes, kind) {
+        Ok(values) => values,
+        Err(error) => {
+            assert!(rt; matches!(error, SegError::Malformed { at } if at <= bytes.len() as u64));
+            return Ok(());
+        }
+    };
+    assert!(rt; is_column(&values, kind));
+    let spelled = encode(rt.alloc(), &values, kind)?;
+    assert!(rt; spelled.as_slice() == bytes || spelled.first() != bytes.first());
+    Ok(())
+}
+
+/// Cut anywhere the bytes are refused; with any byte changed they are lawful.
 fn stays_lawful<R: AllocGlobal + Abort>(rt: &R, bytes: &[u8], kind: ColType) -> Result<(), Fail> {
     for end in 0..bytes.len() {
         assert!(rt;
@@ -175,17 +292,12 @@ fn stays_lawful<R: AllocGlobal + Abort>(rt: &R, bytes: &[u8], kind: ColType) -> 
         );
     }
     for place in 0..bytes.len() {
-        for bit in 0..8u32 {
+        for turned in 0..256u32 {
             let mut changed = Vec::from_slice(rt.alloc(), bytes)?;
             if let Some(byte) = changed.get_mut(place) {
-                *byte ^= 1 << bit;
+                *byte ^= turned as u8;
             }
-            match decode(rt.alloc(), &changed, kind) {
-                Ok(values) => assert!(rt; is_column(&values, kind)),
-                Err(error) => assert!(rt;
-                    matches!(error, SegError::Malformed { at } if at <= bytes.len() as u64)
-                ),
-            }
+            is_lawful(rt, &changed, kind)?;
         }
     }
     Ok(())
@@ -216,6 +328,11 @@ fn changed_bytes(rt: HostRuntime) -> Result<(), Fail> {
     stays_lawful(
         &rt,
         &[4, 0, 4, 0, 0, 0, 2, 0, 1, 0, 120, 1, 0, 121, 1, 8],
+        ColType::Text,
+    )?;
+    stays_lawful(
+        &rt,
+        &[0, 1, 5, 0, 0, 0, 26, 2, 0, 97, 98, 0, 0, 2, 0, 97, 98],
         ColType::Text,
     )
 }

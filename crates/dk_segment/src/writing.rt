@@ -4,14 +4,16 @@ ghost use Rattle.std.specs.Int.{w32, to_le_bytes};
 ghost use Rattle.dk_segment.specs.declared.encoding.Encoding.{Encoding};
 ghost use Rattle.dk_segment.specs.Bodies.{Holds, body_of, code_of};
 ghost use Rattle.dk_segment.specs.Choice.{IsBest};
-ghost use Rattle.dk_segment.specs.Segment.{IsColumn, is_present, present, mask_flag, mask_bytes, segment_bytes, IsSegment};
+ghost use Rattle.dk_segment.specs.Segment.{IsColumn, mask_flag, mask_bytes, segment_bytes, IsSegment};
+ghost use Rattle.dk_bytes.specs.PlainValue.{is_present, present};
 
 use crate::bodies::put_body;
 use crate::choice::best;
 use crate::encoding::{Encoding, code_of};
-use crate::present::{are_present, flags_of, present_values};
+use crate::present::{are_present, flags_of};
 use dk_bytes::{put_u8, put_u32};
 use dk_seg_pack::numbers::pack;
+use dk_seg_text::dictionary;
 use dk_types::{ColType, OutOfMemory, Value};
 use std::alloc::Global;
 
@@ -20,25 +22,9 @@ pub fn encode(alloc: Global, values: &[Value], kind: ColType) -> Result<Vec<u8>,
     requires { IsColumn kind values.now }
     ensures { IfOk result (λ v. (encoding : Encoding) × IsBest kind (present values.now) encoding × IsSegment kind encoding values.now v.items) }
 {
-    if are_present(values) {
-        return spelled(alloc, values, values, kind);
-    }
-    let present = present_values(alloc, values)?;
-    spelled(alloc, values, present.as_slice(), kind)
-}
-
-fn spelled(
-    alloc: Global,
-    values: &[Value],
-    presents: &[Value],
-    kind: ColType,
-) -> Result<Vec<u8>, OutOfMemory>
-    requires column { IsColumn kind values.now }
-    requires presents { presents.now ≡ present values.now }
-    ensures { IfOk result (λ v. (encoding : Encoding) × IsBest kind (present values.now) encoding × IsSegment kind encoding values.now v.items) }
-{
-    let encoding = best(presents, kind);
-    spell(alloc, encoding, values, presents, kind)
+    let dictionary = dictionary::size_in(alloc, values, kind)?;
+    let encoding = best(values, kind, dictionary);
+    spell(alloc, encoding, values, kind)
 }
 
 /// The segment in this encoding.
@@ -46,12 +32,10 @@ fn spell(
     alloc: Global,
     encoding: Encoding,
     values: &[Value],
-    presents: &[Value],
     kind: ColType,
 ) -> Result<Vec<u8>, OutOfMemory>
     requires column { IsColumn kind values.now }
-    requires presents { presents.now ≡ present values.now }
-    requires holds { Holds encoding kind presents.now }
+    requires holds { Holds encoding kind (present values.now) }
     ensures { IfOk result (λ v. v.items ≡ segment_bytes encoding values.now) }
 {
     let mut out = Vec::new(alloc);
@@ -60,7 +44,7 @@ fn spell(
     put_u8(&mut out, masked as u8)?;
     put_u32(&mut out, values.len() as u32)?;
     put_mask(alloc, &mut out, values)?;
-    put_body(encoding, presents, kind, &mut out)?;
+    put_body(encoding, values, kind, &mut out)?;
     Ok(out)
 }
 

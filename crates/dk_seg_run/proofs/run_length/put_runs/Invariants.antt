@@ -1,12 +1,13 @@
 use Rattle.std.proofs.Common.{◌≡◌, ◌++◌, ◌≤◌, length, take, vec_len}
 use Rattle.std.specs.List.{AllByRecursion, flat_map}
 use Rattle.dk_seg_run.specs.RunLength.{IsRun, runs_of, run_bytes}
+use Rattle.dk_bytes.specs.PlainValue.{present}
 use Rattle.dk_seg_run.proofs.run_length.put_runs.Given as goal
 
 abbrev pub invariant-runs : goal.invariant-runs
 invariant-runs l = record {
-  told : l.out.items ++ flat_map run_bytes (runs_of l.left) ≡ l.fn.out.items ++ flat_map run_bytes (runs_of l.fn.values);
-  fits : AllByRecursion (IsRun l.kind) (runs_of l.left);
+  told : l.out.items ++ flat_map run_bytes (runs_of (present l.left)) ≡ l.fn.out.items ++ flat_map run_bytes (runs_of (present l.fn.values));
+  fits : AllByRecursion (IsRun l.kind) (runs_of (present l.left));
   front : take (vec_len l.fn.out) l.out.items ≡ l.fn.out.items;
   long : vec_len l.fn.out ≤ length l.out.items;
 }

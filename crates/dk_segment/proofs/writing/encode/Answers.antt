@@ -1,0 +1,5 @@
+use Rattle.dk_segment.proofs.ChoiceLaws.{column_plain}
+use Rattle.dk_segment.proofs.writing.encode.Goals as goal
+
+pub best-encoding-requires-clause-plain : goal.best-encoding-requires-clause-plain
+best-encoding-requires-clause-plain c = column_plain c.args.kind c.args.values.now c.requires
