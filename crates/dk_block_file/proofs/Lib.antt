@@ -1,1 +1,5 @@
-mod OneByOne
+mod Blocks
+mod Calls
+mod Flips
+mod Ranges
+mod Rewrites

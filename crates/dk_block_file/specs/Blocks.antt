@@ -1,9 +1,12 @@
--- Where the headers and blocks of the main file lie, and what they hold.
-use Rattle.std.specs.Prelude.{◌≡◌, ◌≢◌, ℕ, ◌+◌, ◌-◌, ◌*◌, ◌/◌, ◌^◌, ◌<◌, ◌≤◌, Bool, true, false, Ok, List, [], ◌∷◌, ◌++◌, take, drop, replicate, slice_index}
+-- Where the blocks of the main file lie and what they hold, and the files of an empty database.
+use Rattle.std.specs.Prelude.{◌≡◌, ℕ, ◌+◌, ◌-◌, ◌*◌, ◌/◌, ◌^◌, ◌==◌, nat_lt, Result, Ok, Err, List, [], ◌∷◌, ◌++◌, length, take, drop, replicate, if◌then◌else◌}
 use Rattle.std.specs.Int.{w64, to_le_bytes, from_le_bytes}
 use Rattle.dk_bytes.specs.Checksum.{checksum_of}
-use Rattle.dk_header.specs.declared.header.DbHeader.{DbHeader}
-use Rattle.dk_header.specs.Layout.{framed, main_bytes, body_bytes, body_read}
+use Rattle.dk_types.specs.declared.damage.Damage.{Damage}
+use Rattle.dk_types.specs.declared.damage.Damage.TheVariants.{Sum, Outside}
+use Rattle.dk_header.specs.Layout.{framed, main_bytes, body_bytes}
+use Rattle.dk_block_file.specs.declared.fault.BlockFault.{BlockFault}
+use Rattle.dk_block_file.specs.declared.fault.BlockFault.TheVariants.{DiskFault, Damaged, OutOfMemory}
 
 -- how many whole blocks lie in a main file of this length
 abbrev pub blocks_in : ℕ → ℕ
@@ -11,6 +14,9 @@ blocks_in len = (len - 12288) / 262144
 
 abbrev pub place_of : ℕ → ℕ
 place_of block = 12288 + 262144 * block
+
+abbrev pub block_at : ℕ → List ℕ → List ℕ
+block_at block main = take 262144 (drop (place_of block) main)
 
 -- the checksum in front of a block, and that of its payload
 abbrev pub stored_sum : List ℕ → ℕ
@@ -23,40 +29,22 @@ payload_sum block = checksum_of (drop 8 block)
 abbrev pub sealed : List ℕ → List ℕ
 sealed block = framed (drop 8 block)
 
--- the place of a twin's header, and of its gate
-abbrev pub header_place : ℕ → ℕ
-header_place twin = 4096 + 4096 * twin
+-- the payload of a block, or its two checksums where they differ
+abbrev pub opened : ℕ → List ℕ → Result (List ℕ) Damage
+opened block bytes =
+    if stored_sum bytes == payload_sum bytes then Ok (drop 8 bytes) else Err (Sum block (stored_sum bytes) (payload_sum bytes))
 
-abbrev pub gate_place : ℕ → ℕ
-gate_place twin = header_place twin + 4095
+-- the payload of a block of a main file, or what is wrong with it
+abbrev pub block_read : ℕ → List ℕ → Result (List ℕ) Damage
+block_read block main =
+    if nat_lt block (blocks_in (length main)) then opened block (block_at block main) else Err (Outside block (blocks_in (length main)))
 
-abbrev pub body_at : ℕ → List ℕ → List ℕ
-body_at twin main = take 4095 (drop (header_place twin) main)
-
-abbrev pub gate_at : ℕ → List ℕ → ℕ
-gate_at twin main = slice_index main (gate_place twin)
-
--- in each of these images a twin's gate is closed
-abbrev pub IsClosed : ℕ → (List ℕ → Type 0) → Type 0
-IsClosed twin images = (c : List ℕ) → images c → gate_at twin c ≢ 1
-
--- and its body is the same in each
-abbrev pub HasOneBody : ℕ → (List ℕ → Type 0) → Type 0
-HasOneBody twin images = (c d : List ℕ) → images c → images d → body_at twin c ≡ body_at twin d
-
--- in each of these images the other twin is open with a higher iteration than this one's body, which is whole
-abbrev pub IsLower : ℕ → (List ℕ → Type 0) → Type 0
-IsLower twin images = (c : List ℕ) → images c → (mine theirs : DbHeader) × (body_read twin (body_at twin c) ≡ Ok mine)
-    × (body_read (1 - twin) (body_at (1 - twin) c) ≡ Ok theirs) × (gate_at (1 - twin) c ≡ 1) × (mine.iteration < theirs.iteration)
-
--- when a twin's gate may be written with 0, or with nothing
-abbrev pub MayClose : Bool → ℕ → (List ℕ → Type 0) → Type 0
-MayClose true twin images = IsLower twin images
-MayClose false twin images = IsClosed twin images
-
-abbrev pub closing : Bool → List ℕ
-closing true = 0 ∷ []
-closing false = []
+-- what a call that left this payload answered, where a block reads so
+abbrev pub ReadsAs : Result (List ℕ) Damage → List ℕ → Result (Unit {0}) BlockFault → Type 0
+ReadsAs found payload (Ok done) = found ≡ Ok payload
+ReadsAs found payload (Err DiskFault) = Unit {0}
+ReadsAs found payload (Err (Damaged damage)) = found ≡ Err damage
+ReadsAs found payload (Err OutOfMemory) = ⊥
 
 -- the empty database: no root, no blocks, twin 0 open, twin 1 zeros
 abbrev pub empty_main : List ℕ

@@ -1,2 +1,5 @@
 pub mod Blocks
-pub mod Steps
+pub mod Calls
+pub mod Flips
+pub mod Lending
+pub mod Rewrites
