@@ -125,15 +125,17 @@ fn iteration(main: &[u8]) -> Option<u64> {
     }
 }
 
-/// Whether the images of all moments from one to another have this iteration.
+/// Whether the images of all moments from one up to another have this iteration.
 fn have_iteration(
     disk: &MemoryDisk,
     moments: (u64, u64),
     choice: Choice,
     expected: Option<u64>,
-) -> Result<bool, AllocError> {
-    let (from, to) = moments;
-    for moment in from..to + 1 {
+) -> Result<bool, AllocError>
+    requires { moments.0 ≤ moments.1 }
+{
+    let (from, end) = moments;
+    for moment in from..end {
         if moment > disk.moment() {
             return Ok(false);
         }
@@ -162,12 +164,12 @@ fn a_crash_inside_the_creation_leaves_a_header_or_none(rt: HostRuntime) -> Resul
     let mut disk = disk_of(rt.alloc(), &[])?;
     create(rt.alloc(), &mut disk)?;
     let torn = Choice::Torn { byte: 7 };
-    assert!(rt; have_iteration(&disk, (0, 4), Choice::Kept, None)?);
-    assert!(rt; have_iteration(&disk, (5, 6), Choice::Kept, Some(1))?);
-    assert!(rt; have_iteration(&disk, (0, 5), Choice::Lost, None)?);
-    assert!(rt; have_iteration(&disk, (6, 6), Choice::Lost, Some(1))?);
-    assert!(rt; have_iteration(&disk, (0, 5), torn, None)?);
-    assert!(rt; have_iteration(&disk, (6, 6), torn, Some(1))?);
+    assert!(rt; have_iteration(&disk, (0, 5), Choice::Kept, None)?);
+    assert!(rt; have_iteration(&disk, (5, 7), Choice::Kept, Some(1))?);
+    assert!(rt; have_iteration(&disk, (0, 6), Choice::Lost, None)?);
+    assert!(rt; have_iteration(&disk, (6, 7), Choice::Lost, Some(1))?);
+    assert!(rt; have_iteration(&disk, (0, 6), torn, None)?);
+    assert!(rt; have_iteration(&disk, (6, 7), torn, Some(1))?);
     assert_eq!(rt;
         log_lengths(&disk, Choice::Kept)?,
         [0, 0, 0, 24, 24, 24, 24]
@@ -203,10 +205,10 @@ fn flipped(alloc: Global) -> Result<MemoryDisk, Fail> {
 fn a_crash_inside_a_flip_leaves_one_of_two_headers(rt: HostRuntime) -> Result<(), Fail> {
     let disk = flipped(rt.alloc())?;
     assert_eq!(rt; lengths(&disk), (12, 12_288, 24));
-    assert!(rt; have_iteration(&disk, (6, 10), Choice::Kept, Some(1))?);
-    assert!(rt; have_iteration(&disk, (11, 12), Choice::Kept, Some(2))?);
-    assert!(rt; have_iteration(&disk, (6, 11), Choice::Lost, Some(1))?);
-    assert!(rt; have_iteration(&disk, (12, 12), Choice::Lost, Some(2))?);
+    assert!(rt; have_iteration(&disk, (6, 11), Choice::Kept, Some(1))?);
+    assert!(rt; have_iteration(&disk, (11, 13), Choice::Kept, Some(2))?);
+    assert!(rt; have_iteration(&disk, (6, 12), Choice::Lost, Some(1))?);
+    assert!(rt; have_iteration(&disk, (12, 13), Choice::Lost, Some(2))?);
     Ok(())
 }
 
@@ -215,10 +217,10 @@ fn a_torn_gate_is_open_or_closed(rt: HostRuntime) -> Result<(), Fail> {
     let disk = flipped(rt.alloc())?;
     let closed = Choice::Torn { byte: 7 };
     let open = Choice::Torn { byte: 1 };
-    assert!(rt; have_iteration(&disk, (6, 11), closed, Some(1))?);
-    assert!(rt; have_iteration(&disk, (12, 12), closed, Some(2))?);
-    assert!(rt; have_iteration(&disk, (6, 10), open, Some(1))?);
-    assert!(rt; have_iteration(&disk, (11, 12), open, Some(2))?);
+    assert!(rt; have_iteration(&disk, (6, 12), closed, Some(1))?);
+    assert!(rt; have_iteration(&disk, (12, 13), closed, Some(2))?);
+    assert!(rt; have_iteration(&disk, (6, 11), open, Some(1))?);
+    assert!(rt; have_iteration(&disk, (11, 13), open, Some(2))?);
     Ok(())
 }
 
