@@ -1,12 +1,11 @@
 -- A block that was written is read, and the others stay.
-use Rattle.std.specs.Prelude.{◌≡◌, ◌≢◌, ℕ, ◌+◌, ◌-◌, ◌*◌, ◌/◌, ◌<◌, ◌≤◌, min, Bool, true, false, ◌==◌, nat_lt, Result, Ok, Err, OnOk, IfErr, IsErrAnd, List, length, take, drop, Option, None, Some, IfSome, refl, if◌then◌else◌}
+use Rattle.std.specs.Prelude.{◌≡◌, ◌≢◌, ℕ, ◌-◌, ◌<◌, ◌≤◌, Bool, true, false, ◌==◌, nat_lt, Result, Ok, Err, OnOk, IfErr, IsErrAnd, List, length, take, drop, Option, None, Some, IfSome, refl, if◌then◌else◌}
 use Rattle.std.proofs.Common.{option_map, inl, inr, sym, ◌∙◌, ap, subst, arith}
 use Rattle.std.proofs.lemmas.Bool.{cases_lt, lt-ltb, le-ltb, eq-eqb}
 use Rattle.std.proofs.lemmas.Bool.Decides.{eqb_tells}
 use Rattle.std.proofs.lemmas.Result.{err_from_is_err_and}
 use Rattle.dk_types.specs.declared.damage.Damage.{Damage}
 use Rattle.dk_types.specs.declared.damage.Damage.TheVariants.{Sum, Outside}
-use Rattle.dk_bytes.specs.Checksum.{checksum_of}
 use Rattle.dk_header.proofs.Again.{framed_sum}
 use Rattle.dk_device.specs.Disk.{overlaid}
 use Rattle.dk_device.specs.Left.{length-overlaid}

@@ -1,6 +1,6 @@
 -- Calls that are made one after the other.
 use Rattle.std.specs.Prelude.{◌≡◌, ◌⊎◌, ℕ, true, false, List, [], ◌∷◌, ◌++◌, Option, Result, Ok, Err, OnErr}
-use Rattle.std.proofs.Common.{inl, inr, sym, subst}
+use Rattle.std.proofs.Common.{inl, inr, subst}
 use Rattle.dk_device.specs.declared.calls.DiskCall.{DiskCall}
 use Rattle.dk_device.specs.Disk.{next_moment, with_call, call_at}
 use Rattle.dk_block_file.specs.Calls.{Call, Did, Stopped}

@@ -1,5 +1,5 @@
 -- The gate and the body of a twin behind a write.
-use Rattle.std.specs.Prelude.{◌≡◌, ◌≢◌, ℕ, ◌+◌, ◌-◌, ◌*◌, ◌^◌, ◌<◌, ◌≤◌, List, [], ◌∷◌, ◌++◌, length, take, drop, replicate, Option, None, Some, IfSome, refl}
+use Rattle.std.specs.Prelude.{◌≡◌, ℕ, ◌+◌, ◌-◌, ◌^◌, ◌≤◌, List, [], ◌∷◌, ◌++◌, length, drop, replicate, Option, Some, IfSome, refl}
 use Rattle.std.proofs.Common.{option_map, sym, ◌∙◌, ap, subst, arith, get_or, append_assoc, length-append}
 use Rattle.std.proofs.lemmas.List.{length-replicate, get_or-append_right, get_or-replicate}
 use Rattle.std.proofs.Math.ListN.{get_or-append}

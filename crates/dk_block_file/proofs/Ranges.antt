@@ -1,11 +1,10 @@
 -- A range written over bytes, and the bytes around it.
-use Rattle.std.specs.Prelude.{◌≡◌, ℕ, ◌+◌, ◌-◌, ◌<◌, ◌≤◌, min, List, [], ◌∷◌, ◌++◌, length, take, drop, Option, None, Some, IfSome, refl}
+use Rattle.std.specs.Prelude.{◌≡◌, ℕ, ◌+◌, ◌-◌, ◌≤◌, min, List, [], ◌∷◌, ◌++◌, length, take, drop, Option, None, Some, IfSome, refl}
 use Rattle.std.proofs.Common.{option_map, sym, ◌∙◌, ap, subst, arith, get_or, append_assoc, length-append, length-drop}
-use Rattle.std.proofs.lemmas.Bool.{cases_lt}
 use Rattle.std.proofs.lemmas.List.{take_all, take_at, drop_at, drop_all, append-nil, take-append-le, take-take, drop-drop, drop-take, length-take, get_or-drop, get_or_at}
 use Rattle.std.proofs.Math.Seq.{take-append-add}
-use Rattle.dk_device.specs.Disk.{overlaid, TornWrite}
-use Rattle.dk_device.specs.Left.{torn_overlaid, length-overlaid}
+use Rattle.dk_device.specs.Disk.{overlaid}
+use Rattle.dk_device.specs.Left.{torn_overlaid}
 use Rattle.dk_block_file.specs.Lending.{with_payload}
 
 -- the bytes behind a place, replaced

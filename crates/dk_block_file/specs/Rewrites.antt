@@ -1,5 +1,5 @@
 -- What a crash may leave of both files while a range of one is written and synced.
-use Rattle.std.specs.Prelude.{◌≡◌, ◌↔◌, ℕ, ◌^◌, ◌≤◌, List}
+use Rattle.std.specs.Prelude.{◌↔◌, ℕ, ◌^◌, ◌≤◌, List}
 use Rattle.dk_device.specs.declared.device.FileId.{FileId}
 use Rattle.dk_device.specs.Disk.{TornWrite, other}
 

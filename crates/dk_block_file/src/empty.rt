@@ -2,7 +2,6 @@
 ghost use Rattle.std.specs.Prelude.{◌≡◌, ◌⊎◌, ◌≤◌, ◌++◌, ◌∷◌, [], max, replicate, List, ℕ, Some, Err, length, IfOk, IfErr, IfSome, OnOk, OnErr};
 ghost use Rattle.std.specs.Int.{w64, to_le_bytes};
 ghost use Rattle.std.proofs.Common.{option_map};
-ghost use Rattle.dk_bytes.specs.Checksum.{checksum_of};
 ghost use Rattle.dk_device.specs.Causes.{HasCause, Rose};
 ghost use Rattle.dk_device.specs.Disk.{overlaid};
 ghost use Rattle.dk_device.specs.declared.device.FileId.{FileId};

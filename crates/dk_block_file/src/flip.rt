@@ -1,5 +1,5 @@
 // The writes that flip a twin's header.
-ghost use Rattle.std.specs.Prelude.{◌≡◌, ◌≤◌, ◌+◌, ◌∷◌, [], List, ℕ, Some, length, true, false, OnOk, OnErr, IfErr, IsErr};
+ghost use Rattle.std.specs.Prelude.{◌≡◌, ◌≤◌, ◌+◌, ◌∷◌, [], List, ℕ, Some, length, OnOk, OnErr, IfErr, IsErr};
 ghost use Rattle.std.proofs.Common.{option_map};
 ghost use Rattle.dk_device.specs.Causes.{Rose};
 ghost use Rattle.dk_device.specs.Disk.{overlaid};

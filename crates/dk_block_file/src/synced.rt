@@ -3,7 +3,6 @@ ghost use Rattle.std.specs.Prelude.{◌≡◌, ◌≤◌, ◌+◌, List, ℕ, So
 ghost use Rattle.std.proofs.Common.{option_map};
 ghost use Rattle.dk_device.specs.Causes.{HasCause};
 ghost use Rattle.dk_device.specs.Disk.{overlaid, other};
-ghost use Rattle.dk_device.specs.declared.device.FileId.TheVariants.{Main, Wal};
 ghost use Rattle.dk_block_file.specs.Calls.{Did, Stopped, synced_write, synced_cut};
 ghost use Rattle.dk_block_file.specs.Rewrites.{Rewrites, Earlier};
 

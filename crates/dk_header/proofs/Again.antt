@@ -1,17 +1,15 @@
 -- A header that was written is read again.
-use Rattle.std.proofs.Common.{◌≡◌, ℕ, zero, suc, ◌+◌, ◌*◌, ◌/◌, ◌%◌, ◌^◌, ◌<◌, ◌≤◌, Bool, true, not, ◌==◌, ◌&&◌, List, ◌++◌, length, drop, replicate, Option, None, Some, Result, Ok, Err, refl, sym, subst, arith, if◌then◌else◌}
+use Rattle.std.proofs.Common.{◌≡◌, ℕ, zero, suc, ◌+◌, ◌*◌, ◌/◌, ◌%◌, ◌^◌, ◌<◌, Bool, true, not, ◌==◌, ◌&&◌, List, ◌++◌, length, drop, replicate, Option, None, Some, Ok, Err, refl, sym, subst, arith, if◌then◌else◌}
 use Rattle.std.specs.Int.{w32, w64, to_le_bytes, from_le_bytes}
 use Rattle.std.specs.Int.Bits.{bit_xor}
 use Rattle.std.specs.List.{position, prefix_len}
 use Rattle.std.proofs.lemmas.Bool.{le-ltb, eq-eqb}
 use Rattle.std.proofs.lemmas.List.{length-replicate}
-use Rattle.std.proofs.lemmas.Nat.{xor_lt, from_le_bytes-to_le_bytes_4, from_le_bytes-to_le_bytes_8}
+use Rattle.std.proofs.lemmas.Nat.{xor_lt, from_le_bytes-to_le_bytes_8}
 use Rattle.dk_bytes.specs.Checksum.{spread, with_bytes, checksum_of}
-use Rattle.dk_types.specs.declared.damage.Damage.{Damage}
 use Rattle.dk_types.specs.declared.damage.Damage.TheVariants.{HeaderSum, Malformed}
 use Rattle.dk_types.specs.declared.damage.Part.TheVariants.{Header}
 use Rattle.dk_header.specs.declared.header.DbHeader.{DbHeader}
-use Rattle.dk_header.specs.declared.header.MainFault.{MainFault}
 use Rattle.dk_header.specs.declared.header.MainFault.TheVariants.{NotADatabase, Malformed as MainMalformed}
 use Rattle.dk_header.specs.Layout.{framed, main_bytes, body_bytes, number_at, moved, sum_matches, main_read, body_read, iteration_fits}
 

@@ -1,9 +1,9 @@
-use Rattle.std.specs.Prelude.{◌≡◌, ◌≢◌, ℕ, Result, Err, IfSome, List, [], ◌∷◌, length, drop, refl}
-use Rattle.std.proofs.Common.{ap, sym, ◌∙◌, subst}
+use Rattle.std.specs.Prelude.{◌≢◌, ℕ, Result, IfSome, List, [], ◌∷◌, length, drop}
+use Rattle.std.proofs.Common.{sym, subst}
 use Rattle.dk_device.specs.declared.device.FileId.TheVariants.{Main}
 use Rattle.dk_device.specs.declared.calls.Handed.TheVariants.{Read}
 use Rattle.dk_types.specs.declared.damage.Damage.TheVariants.{Sum}
-use Rattle.dk_block_file.specs.Blocks.{place_of, block_read, ReadsAs, stored_sum, payload_sum}
+use Rattle.dk_block_file.specs.Blocks.{block_read, ReadsAs, stored_sum, payload_sum}
 use Rattle.dk_block_file.specs.declared.fault.BlockFault.{BlockFault}
 use Rattle.dk_block_file.specs.Calls.{Did, Stopped}
 use Rattle.dk_block_file.proofs.Blocks.{told_answers, told_fault, fault_is, no_fault}

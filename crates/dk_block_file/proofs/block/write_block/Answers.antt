@@ -1,9 +1,9 @@
-use Rattle.std.specs.Prelude.{◌≡◌, ℕ, List, [], ◌∷◌, ◌+◌, length}
+use Rattle.std.specs.Prelude.{◌≡◌, ℕ, List, [], ◌∷◌, length}
 use Rattle.std.proofs.Common.{option_map, inl, inr, subst, ap, sym, ◌∙◌}
 use Rattle.dk_device.specs.declared.device.FileId.TheVariants.{Main}
 use Rattle.dk_device.specs.declared.calls.Handed.TheVariants.{Write}
 use Rattle.dk_device.specs.Disk.{overlaid, TornWrite, Follows, Allows}
-use Rattle.dk_block_file.specs.Blocks.{place_of, sealed}
+use Rattle.dk_block_file.specs.Blocks.{sealed}
 use Rattle.dk_block_file.specs.Calls.{Did, Stopped}
 use Rattle.dk_block_file.proofs.Blocks.{told_reads, told_others}
 use Rattle.dk_block_file.proofs.Calls.{did_one, stopped_one, on_err}

@@ -1,7 +1,6 @@
-use Rattle.std.specs.Prelude.{◌≡◌, ℕ, List, [], ◌∷◌}
+use Rattle.std.specs.Prelude.{ℕ, List}
 use Rattle.std.proofs.Common.{subst}
-use Rattle.dk_device.specs.declared.device.FileId.TheVariants.{Main, Wal}
-use Rattle.dk_device.specs.declared.calls.Handed.TheVariants.{Write, Sync}
+use Rattle.dk_device.specs.declared.device.FileId.TheVariants.{Wal}
 use Rattle.dk_block_file.specs.Blocks.{log_bytes}
 use Rattle.dk_block_file.specs.Calls.{Stopped, synced_write, synced_cut}
 use Rattle.dk_block_file.proofs.Calls.{on_err, stopped_then}

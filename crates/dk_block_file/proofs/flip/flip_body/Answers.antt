@@ -1,6 +1,6 @@
-use Rattle.std.specs.Prelude.{◌≡◌, ℕ, List, [], ◌∷◌, Some, length}
+use Rattle.std.specs.Prelude.{◌≡◌, ℕ, List, length}
 use Rattle.dk_device.specs.declared.device.FileId.TheVariants.{Main}
-use Rattle.std.proofs.Common.{ap, ◌∙◌, subst, sym, option_map}
+use Rattle.std.proofs.Common.{subst, option_map}
 use Rattle.dk_device.specs.Disk.{overlaid}
 use Rattle.dk_header.specs.Layout.{body_bytes}
 use Rattle.dk_block_file.specs.Flips.{header_place}

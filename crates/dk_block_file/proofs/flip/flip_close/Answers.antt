@@ -1,4 +1,3 @@
-use Rattle.std.specs.Prelude.{◌≡◌, ℕ, List}
 use Rattle.dk_device.specs.declared.device.FileId.TheVariants.{Main}
 use Rattle.dk_block_file.proofs.Flips.{gate_shut}
 use Rattle.dk_block_file.proofs.flip.flip_close.Goals as goal

@@ -1,4 +1,4 @@
-use Rattle.std.specs.Prelude.{◌≡◌, ℕ, List, [], ◌∷◌}
+use Rattle.std.specs.Prelude.{[], ◌∷◌}
 use Rattle.std.proofs.Common.{inl, inr}
 use Rattle.dk_device.specs.declared.calls.Handed.TheVariants.{Cut, Sync}
 use Rattle.dk_block_file.proofs.Calls.{did_one, did_then, stopped_one, stopped_first, stopped_then, on_err}

@@ -1,4 +1,4 @@
-use Rattle.std.proofs.Common.{◌≡◌, refl, ap, sym, ◌∙◌, arith, List, ℕ, ◌-◌, take, drop, length, length-drop}
+use Rattle.std.proofs.Common.{◌≡◌, refl, ap, ◌∙◌, arith, List, ℕ, ◌-◌, drop, length, length-drop}
 use Rattle.dk_block_file.specs.Lending.{with_payload}
 use Rattle.dk_block_file.proofs.Ranges.{with_lent, rest_is}
 use Rattle.dk_block_file.proofs.block_buf.BlockBuf.payload_mut.Goals as goal
