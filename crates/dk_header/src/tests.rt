@@ -78,10 +78,12 @@ fn is_malformed(place: usize) -> bool
     let sum = checksum(&bytes[8..4095]).to_le_bytes();
     bytes[..8].copy_from_slice(&sum);
     match choose(&ZEROS, &bytes) {
-        Err(Damage::Malformed {
-            part: Part::Header,
-            at,
-        }) => at == place as u64,
+        Err(
+            Damage::Malformed {
+                part: Part::Header,
+                at,
+            },
+        ) => at == place as u64,
         _ => false,
     }
 }
