@@ -21,6 +21,15 @@ fn lengths<D: Disk>(disk: &D) -> (u64, u64, u64) {
     (disk.moment(), disk.len(FileId::Main), disk.len(FileId::Wal))
 }
 
+/// The calls are made through functions without a contract of their own, since what they say of a disk in memory is long.
+fn make<D: Disk>(alloc: Global, disk: &mut D) -> Result<(), BlockFault> {
+    create(alloc, disk)
+}
+
+fn read<D: Disk>(disk: &mut D, block: u64, buf: &mut BlockBuf) -> Result<(), BlockFault> {
+    read_block(disk, block, buf)
+}
+
 fn write_first<D: Disk>(disk: &mut D, buf: &mut BlockBuf) -> Result<(), BlockFault> {
     if disk.len(FileId::Main) < 12_288 {
         return Err(BlockFault::DiskFault);
@@ -44,20 +53,20 @@ fn first_two(block: &BlockBuf) -> Option<(u8, u8)> {
 #[test]
 fn a_block_reads_as_written(rt: HostRuntime) -> Result<(), Fail> {
     let mut disk = disk_of(rt.alloc(), &[])?;
-    create(rt.alloc(), &mut disk)?;
+    make(rt.alloc(), &mut disk)?;
     assert_eq!(rt; lengths(&disk), (6, 12_288, 24));
     let mut block = block_with(rt.alloc(), 5)?;
     write_first(&mut disk, &mut block)?;
     assert_eq!(rt; lengths(&disk), (7, 274_432, 24));
     let mut again = BlockBuf::new(rt.alloc())?;
-    read_block(&mut disk, 0, &mut again)?;
+    read(&mut disk, 0, &mut again)?;
     assert_eq!(rt; first_two(&again), Some((5, 0)));
     let outside = Damage::Outside {
         block: 1,
         blocks: 1,
     };
     assert_eq!(rt;
-        read_block(&mut disk, 1, &mut again),
+        read(&mut disk, 1, &mut again),
         Err(BlockFault::Damaged(outside))
     );
     Ok(())
@@ -74,11 +83,11 @@ fn spoil<D: Disk>(disk: &mut D) -> Result<(), Failed> {
 #[test]
 fn a_changed_block_is_told(rt: HostRuntime) -> Result<(), Fail> {
     let mut disk = disk_of(rt.alloc(), &[])?;
-    create(rt.alloc(), &mut disk)?;
+    make(rt.alloc(), &mut disk)?;
     let mut block = block_with(rt.alloc(), 5)?;
     write_first(&mut disk, &mut block)?;
     spoil(&mut disk)?;
-    let told = match read_block(&mut disk, 0, &mut block) {
+    let told = match read(&mut disk, 0, &mut block) {
         Err(
             BlockFault::Damaged(
                 Damage::Sum {
@@ -97,7 +106,7 @@ fn a_changed_block_is_told(rt: HostRuntime) -> Result<(), Fail> {
 /// How far `create` comes on a disk that fails at a moment, and whether it answers a fault.
 fn create_failing(alloc: Global, moment: u64) -> Result<(u64, bool), AllocError> {
     let mut disk = disk_of(alloc, &[moment])?;
-    let fails = create(alloc, &mut disk) == Err(BlockFault::DiskFault);
+    let fails = make(alloc, &mut disk) == Err(BlockFault::DiskFault);
     Ok((disk.moment(), fails))
 }
 
@@ -162,7 +171,7 @@ fn log_lengths(disk: &MemoryDisk, choice: Choice) -> Result<[usize; 7], AllocErr
 #[test]
 fn a_crash_inside_the_creation_leaves_a_header_or_none(rt: HostRuntime) -> Result<(), Fail> {
     let mut disk = disk_of(rt.alloc(), &[])?;
-    create(rt.alloc(), &mut disk)?;
+    make(rt.alloc(), &mut disk)?;
     let torn = Choice::Torn { byte: 7 };
     assert!(rt; have_iteration(&disk, (0, 5), Choice::Kept, None)?);
     assert!(rt; have_iteration(&disk, (5, 7), Choice::Kept, Some(1))?);
@@ -193,11 +202,15 @@ fn flip_second<D: Disk>(disk: &mut D) -> Result<(), BlockFault>
     flip_open(disk, 1)
 }
 
+fn make_flipped<D: Disk>(alloc: Global, disk: &mut D) -> Result<(), BlockFault> {
+    create(alloc, disk)?;
+    flip_second(disk)
+}
+
 /// An empty database whose second twin was made the current one.
 fn flipped(alloc: Global) -> Result<MemoryDisk, Fail> {
     let mut disk = disk_of(alloc, &[])?;
-    create(alloc, &mut disk)?;
-    flip_second(&mut disk)?;
+    make_flipped(alloc, &mut disk)?;
     Ok(disk)
 }
 
@@ -230,7 +243,7 @@ fn host(rt: &HostRuntime, path: &str) -> Result<HostDisk, AllocError> {
 
 fn leave_a_block(rt: &HostRuntime, path: &str) -> Result<(), Fail> {
     let mut disk = host(rt, path)?;
-    create(rt.alloc(), &mut disk)?;
+    make(rt.alloc(), &mut disk)?;
     let mut block = block_with(rt.alloc(), 9)?;
     write_first(&mut disk, &mut block)?;
     Ok(())
@@ -244,7 +257,7 @@ fn a_block_of_a_real_file_is_found_again(rt: HostRuntime) -> Result<(), Fail> {
     let mut again = host(&rt, "dk_block_file_test.db")?;
     assert_eq!(rt; lengths(&again), (0, 274_432, 24));
     let mut block = BlockBuf::new(rt.alloc())?;
-    read_block(&mut again, 0, &mut block)?;
+    read(&mut again, 0, &mut block)?;
     assert_eq!(rt; first_two(&block), Some((9, 0)));
     Ok(())
 }
