@@ -1,7 +1,7 @@
 // The bytes of the headers.
-ghost use Rattle.std.specs.Prelude.{◌≡◌, ◌≤◌, ◌++◌, length, drop};
+ghost use Rattle.std.specs.Prelude.{◌≡◌, ◌≤◌, ◌++◌, ℕ, Ok, true, length, drop};
 ghost use Rattle.std.specs.Int.{w32, w64, to_le_bytes};
-ghost use Rattle.dk_header.specs.Layout.{framed, main_bytes, body_bytes};
+ghost use Rattle.dk_header.specs.Layout.{framed, main_bytes, body_bytes, main_read, body_read, iteration_fits};
 
 use crate::header::{DbHeader, MAGIC};
 use dk_bytes::checksum;
@@ -26,13 +26,20 @@ fn frame_main(bytes: &mut [u8], version: u64)
     sum.copy_from_slice(&checksum(fields).to_le_bytes());
 }
 
-/// The main header of a version.
-pub fn main_header(version: u64) -> [u8; 4096]
+fn framed_main(version: u64) -> [u8; 4096]
     ensures { result ≡ main_bytes version }
 {
     let mut bytes = [0; 4096];
     frame_main(&mut bytes, version);
     bytes
+}
+
+/// The main header of a version.
+pub fn main_header(version: u64) -> [u8; 4096]
+    ensures layout { result ≡ main_bytes version }
+    ensures again { main_read result ≡ Ok version }
+{
+    framed_main(version)
 }
 
 /// The fields behind a database header's checksum.
@@ -57,11 +64,30 @@ fn frame_body(bytes: &mut [u8], header: &DbHeader)
     sum.copy_from_slice(&checksum(fields).to_le_bytes());
 }
 
-/// A database header without its gate.
-pub fn body_of(header: &DbHeader) -> [u8; 4095]
+fn framed_body(header: &DbHeader) -> [u8; 4095]
     ensures { result ≡ body_bytes header.now }
 {
     let mut bytes = [0; 4095];
     frame_body(&mut bytes, header);
     bytes
+}
+
+/// The same of the fields one by one.
+fn body_with(iteration: u64, root: u64, blocks: u64) -> [u8; 4095]
+    ensures layout { result ≡ body_bytes record { iteration = iteration; root = root; blocks = blocks } }
+    ensures again { iteration_fits iteration ≡ true → (twin : ℕ) → body_read twin result ≡ Ok record { iteration = iteration; root = root; blocks = blocks } }
+{
+    framed_body(&DbHeader {
+        iteration,
+        root,
+        blocks,
+    })
+}
+
+/// A database header without its gate.
+pub fn body_of(header: &DbHeader) -> [u8; 4095]
+    ensures layout { result ≡ body_bytes header.now }
+    ensures again { iteration_fits header.now.iteration ≡ true → (twin : ℕ) → body_read twin result ≡ Ok header.now }
+{
+    body_with(header.iteration, header.root, header.blocks)
 }

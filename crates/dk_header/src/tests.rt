@@ -1,6 +1,7 @@
-ghost use Rattle.std.specs.Prelude.{◌<◌};
+ghost use Rattle.std.specs.Prelude.{◌<◌, ◌≤◌};
 
 use crate::{DbHeader, MainFault, body_of, choose, main_header, read_main};
+use dk_bytes::checksum;
 use dk_types::{Damage, Part};
 use std::process::Abort;
 
@@ -64,6 +65,52 @@ fn each_changed_bit_is_told(rt: HostRuntime) {
         for bit in 0..8 {
             assert!(rt; is_told(&good, place, bit));
         }
+    }
+}
+
+/// Whether a body with one byte more that isn't zero, and its checksum, is told with the byte's place.
+fn is_malformed(place: usize) -> bool
+    requires fields { 32 ≤ place }
+    requires body { place < 4095 }
+{
+    let mut bytes = open_header(5, 1);
+    bytes[place] = 1;
+    let sum = checksum(&bytes[8..4095]).to_le_bytes();
+    bytes[..8].copy_from_slice(&sum);
+    match choose(&ZEROS, &bytes) {
+        Err(
+            Damage::Malformed {
+                part: Part::Header,
+                at,
+            },
+        ) => at == place as u64,
+        _ => false,
+    }
+}
+
+#[test]
+fn each_byte_of_a_body_that_must_be_zero_is_told(rt: HostRuntime) {
+    for place in 32..4095 {
+        assert!(rt; is_malformed(place));
+    }
+}
+
+/// The same of the main header.
+fn is_malformed_main(place: usize) -> bool
+    requires fields { 20 ≤ place }
+    requires header { place < 4096 }
+{
+    let mut bytes = main_header(1001);
+    bytes[place] = 1;
+    let sum = checksum(&bytes[8..]).to_le_bytes();
+    bytes[..8].copy_from_slice(&sum);
+    read_main(&bytes) == Err(MainFault::Malformed { at: place as u64 })
+}
+
+#[test]
+fn each_byte_of_the_main_header_that_must_be_zero_is_told(rt: HostRuntime) {
+    for place in 20..4096 {
+        assert!(rt; is_malformed_main(place));
     }
 }
 

@@ -1,0 +1,5 @@
+mod Blocks
+mod Calls
+mod Flips
+mod Ranges
+mod Rewrites

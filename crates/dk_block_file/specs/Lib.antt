@@ -1,0 +1,5 @@
+pub mod Blocks
+pub mod Calls
+pub mod Flips
+pub mod Lending
+pub mod Rewrites
