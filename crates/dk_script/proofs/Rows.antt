@@ -2,7 +2,7 @@
 use Rattle.std.proofs.Common.{◌≡◌, ℕ, ◌+◌, ◌<◌, List, ◌∷◌, ◌++◌, length, drop, get_or, suc, Option, Some, None, Result, Ok, Err, OnErr, refl, sym, ap, ◌∙◌, add-one}
 use Rattle.std.proofs.Math.Seq.{drop-cons}
 use Rattle.dk_types.specs.declared.value.Value.{Value}
-use Rattle.dk_script.specs.Database.{present}
+use Rattle.dk_si.specs.Database.{present}
 use Rattle.dk_script.specs.Texts.{rows_text, present_text}
 
 first_row : (row : Option (List Value)) (rows : List (Option (List Value))) → rows_text (present (row ∷ rows)) ≡ present_text row ++ rows_text (present rows)

@@ -2,7 +2,8 @@
 use Rattle.std.specs.Prelude.{ℕ, List, [], ◌++◌, length, codes, decimal}
 use Rattle.dk_script.specs.declared.store.Answer.{Answer}
 use Rattle.dk_script.specs.declared.store.Answer.TheVariants.{Created, Changed, Rows, Refused}
-use Rattle.dk_script.specs.Database.{Database, rows_at, present}
+use Rattle.dk_si.specs.Database.{present}
+use Rattle.dk_script.specs.Database.{Database, rows_at}
 use Rattle.dk_script.specs.Texts.{refusal_text, rows_text}
 
 -- its words

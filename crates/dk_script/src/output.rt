@@ -3,7 +3,7 @@ ghost use Rattle.std.specs.Prelude.{◌≡◌, ◌≤◌, ◌++◌, [], length, 
 ghost use Rattle.std.specs.Io.KnownBytes.{Appends};
 ghost use Rattle.dk_io.specs.Causes.{Rose, HasCause};
 ghost use Rattle.dk_io.specs.Fronts.{TakesFront};
-ghost use Rattle.dk_script.specs.Database.{present};
+ghost use Rattle.dk_si.specs.Database.{present};
 ghost use Rattle.dk_script.specs.Leaves.{Leaves};
 ghost use Rattle.dk_script.specs.Meaning.{reply_of};
 ghost use Rattle.dk_script.specs.Texts.{rows_text, present_text, told_text};

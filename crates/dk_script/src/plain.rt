@@ -4,7 +4,7 @@ ghost use Rattle.std.specs.Prelude.{◌≡◌, ◌+◌, ◌^◌, ◌<◌, ◌≤
 ghost use Rattle.std.specs.Str.Lines.{strip_carriage_return};
 ghost use Rattle.dk_io.specs.Lines.{told, told_lines};
 ghost use Rattle.dk_script.specs.Answers.{body_text};
-ghost use Rattle.dk_script.specs.Database.{present};
+ghost use Rattle.dk_si.specs.Database.{present};
 ghost use Rattle.dk_script.specs.GrammarLines.{AreLines};
 ghost use Rattle.dk_script.specs.Script.{ask_in, is_good, ask_text, ask_after, script_output};
 ghost use Rattle.dk_script.specs.Texts.{rows_text};

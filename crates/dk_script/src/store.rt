@@ -1,31 +1,30 @@
 //! The tables, and the statements on them.
-ghost use Rattle.std.specs.Prelude.{◌≡◌, ◌==◌, ◌+◌, ◌^◌, ◌<◌, ◌≤◌, [], map, length, Some, IfOk, IfSome, OnOk, OnErr};
-ghost use Rattle.std.specs.List.{list_all};
-ghost use Rattle.dk_script.specs.Database.{place_of, rows_at};
+ghost use Rattle.std.specs.Prelude.{◌≡◌, ◌+◌, ◌^◌, ◌<◌, ◌≤◌, [], map, length, Some, IfOk, OnOk, OnErr};
+ghost use Rattle.dk_script.specs.Database.{rows_at};
 
+use dk_si::database::place_of;
+use dk_si::meaning::{all_big, fits};
+use dk_si::{MAX_TABLES, Table};
 use dk_types::{
     Bytes, Columns, List, OptionRows, OutOfMemory, Receipt, Refusal, Row, Rows, Schema, Statement,
 };
 use std::alloc::Global;
 use std::marker::Model;
 
-/// How many tables there may be.
-pub const MAX_TABLES: usize = 64;
-
-/// A table: its rows stand by their ids.
-#[derive(Debug, Drop)]
-pub struct Table {
-    pub name: Bytes,
-    pub schema: Schema,
-    pub rows: OptionRows,
-}
-
 /// What a statement is answered. The rows of a table are named by its place and not copied.
 #[derive(Clone, Copy, Debug, PartialEq, Eq)]
 pub enum Answer {
-    Created { receipt: Receipt },
-    Changed { count: u64, receipt: Receipt },
-    Rows { place: usize },
+    Created {
+        receipt: Receipt,
+    },
+    /// The receipt is there where something was changed.
+    Changed {
+        count: u64,
+        receipt: Option<Receipt>,
+    },
+    Rows {
+        place: usize,
+    },
     Refused(Refusal),
 }
 
@@ -48,7 +47,7 @@ impl Model for Store {
 }
 
 impl Store {
-    ghost use Rattle.dk_script.specs.Meaning.{step, create, insert_at, select_at, reply_of};
+    ghost use Rattle.dk_script.specs.Meaning.{step, added, reply_of};
 
     /// No tables, and no commit so far.
     pub fn new(alloc: Global) -> Store
@@ -97,11 +96,14 @@ impl Store {
         columns: Columns,
     ) -> Result<Answer, OutOfMemory>
         requires { self.old.commits + 1 < 2 ^ 64 }
-        ensures step { IfOk result (λ answer. create name columns self.old ≡ (reply_of self.new answer, self.new)) }
+        ensures step { IfOk result (λ answer. step self.old (Statement.Create name columns) ≡ (reply_of self.new answer, self.new)) }
         ensures commits { OnOk result (self.new.commits ≤ self.old.commits + 1) }
         ensures err { OnErr result (self.new ≡ self.old) }
     {
-        if find(&self.tables, name.as_slice()).is_some() || self.tables.len() >= MAX_TABLES {
+        if place_of(&self.tables, name.as_slice()).is_some()
+            || !all_big(columns.as_slice())
+            || self.tables.len() >= MAX_TABLES
+        {
             return Ok(UNSUPPORTED);
         }
         let Ok(schema) = Schema::new(columns.into_vec()) else {
@@ -119,52 +121,53 @@ impl Store {
 
     fn insert(&mut self, alloc: Global, name: Bytes, tuples: Rows) -> Result<Answer, OutOfMemory>
         requires { self.old.commits + 1 < 2 ^ 64 }
-        ensures step { IfOk result (λ answer. insert_at tuples self.old (place_of name self.old.tables) ≡ (reply_of self.new answer, self.new)) }
+        ensures step { IfOk result (λ answer. step self.old (Statement.Insert name tuples) ≡ (reply_of self.new answer, self.new)) }
         ensures commits { OnOk result (self.new.commits ≤ self.old.commits + 1) }
         ensures err { OnErr result (self.new ≡ self.old) }
     {
-        let Some(place) = find(&self.tables, name.as_slice()) else {
+        let Some(place) = place_of(&self.tables, name.as_slice()) else {
             return Ok(UNSUPPORTED);
         };
-        if !fits(&tuples, self.tables[place].schema.len()) {
+        if place >= MAX_TABLES {
             return Ok(UNSUPPORTED);
         }
+        if !fits(self.tables[place].schema.as_slice(), tuples.as_slice()) {
+            return Ok(UNSUPPORTED);
+        }
+        self.add(alloc, place, tuples)
+    }
+
+    /// Adds rows to the table at a place. Where there are none, nothing is committed.
+    fn add(&mut self, alloc: Global, place: usize, tuples: Rows) -> Result<Answer, OutOfMemory>
+        requires room { self.old.commits + 1 < 2 ^ 64 }
+        requires within { place < length self.old.tables }
+        ensures step { IfOk result (λ answer. added self.old place tuples ≡ (reply_of self.new answer, self.new)) }
+        ensures commits { OnOk result (self.new.commits ≤ self.old.commits + 1) }
+        ensures err { OnErr result (self.new ≡ self.old) }
+    {
         let count = tuples.len() as u64;
+        if count == 0 {
+            let receipt = None;
+            return Ok(Answer::Changed { count, receipt });
+        }
         let rows = as_present(alloc, tuples)?;
         self.tables[place].rows.append(rows)?;
         self.commits += 1;
-        let receipt = Receipt {
+        let receipt = Some(Receipt {
             number: self.commits,
             moment: 0,
-        };
+        });
         Ok(Answer::Changed { count, receipt })
     }
 
     fn select(&self, name: Bytes) -> Answer
-        ensures { select_at self.now (place_of name self.now.tables) ≡ (reply_of self.now result, self.now) }
+        ensures { step self.now (Statement.Select name) ≡ (reply_of self.now result, self.now) }
     {
-        match find(&self.tables, name.as_slice()) {
-            Some(place) => Answer::Rows { place },
-            None => UNSUPPORTED,
+        match place_of(&self.tables, name.as_slice()) {
+            Some(place) if place < MAX_TABLES => Answer::Rows { place },
+            _ => UNSUPPORTED,
         }
     }
-}
-
-/// The place of the table of that name.
-fn find(tables: &Vec<Table>, name: &[u8]) -> Option<usize>
-    ensures place { result ≡ place_of name.now tables.now.items }
-    ensures within { IfSome result (λ place. place < length tables.now.items) }
-{
-    tables
-        .iter()
-        .position(|table| table.name.as_slice() == name)
-}
-
-/// Whether each tuple has that many values.
-fn fits(tuples: &Rows, width: usize) -> bool
-    ensures { result ≡ list_all (λ tuple. length tuple == width) tuples.now }
-{
-    tuples.as_slice().iter().all(|tuple| tuple.len() == width)
 }
 
 /// The rows as rows that are there.

@@ -42,7 +42,8 @@ fn is_big_type(kind: ColType) -> bool
     matches!(kind, ColType::Big)
 }
 
-fn all_big(columns: &[Column]) -> bool
+/// Whether all columns are BIGINT.
+pub fn all_big(columns: &[Column]) -> bool
     ensures { result ≡ all_big columns.now }
 {
     columns.iter().all(|column| is_big_type(column.kind))
@@ -76,7 +77,7 @@ fn create(
 }
 
 /// Whether each tuple has a number for each column.
-fn fits(schema: &[Column], tuples: &[Row]) -> bool
+pub fn fits(schema: &[Column], tuples: &[Row]) -> bool
     ensures { result ≡ fits schema.now tuples.now }
 {
     all_big(schema) && all_fit(schema.len(), tuples)

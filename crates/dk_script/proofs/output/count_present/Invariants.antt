@@ -1,6 +1,6 @@
 -- The rows counted so far and those to come are all that are there.
 use Rattle.std.proofs.Common.{◌≡◌, ◌+◌, ◌≤◌, length, drop}
-use Rattle.dk_script.specs.Database.{present}
+use Rattle.dk_si.specs.Database.{present}
 use Rattle.dk_script.proofs.output.count_present.Given as goal
 
 abbrev pub invariant-loop-row : goal.invariant-loop-row

@@ -1,6 +1,6 @@
 -- The rows so far went out or stand on the page, and the others come next.
 use Rattle.std.proofs.Common.{◌≤◌, ◌++◌, drop}
-use Rattle.dk_script.specs.Database.{present}
+use Rattle.dk_si.specs.Database.{present}
 use Rattle.dk_script.specs.Leaves.{Leaves}
 use Rattle.dk_script.specs.Texts.{rows_text}
 use Rattle.dk_script.proofs.output.tell_rows.Given as goal
