@@ -1,5 +1,5 @@
 //! Laws of the machine. None of these functions does anything: what is proved is its contract.
-ghost use Rattle.dk_si.specs.Laws.{CommitsStay, FrontsAreSteps, SeesItsSnapshot, SameRowsAreEqual, CountsItsRows};
+ghost use Rattle.dk_si.specs.Laws.{CommitsStay, FrontsAreSteps, SeesItsSnapshot, SameRowsAreEqual, CountsItsRows, CommitsHaveStarts, FirstCommitterWins};
 
 /// The state after the first n commits does not depend on what comes after the n-th.
 #[tactic(auto, using(crate::proofs::Growth::commits_stay))]
@@ -29,4 +29,17 @@ pub fn same_rows_are_equal()
 #[tactic(auto, using(crate::proofs::Meant::counts_its_rows))]
 pub fn counts_its_rows()
     ensures { CountsItsRows }
+{}
+
+/// Each commit is that of a transaction with a start.
+#[tactic(auto, using(crate::proofs::Wins::commits_have_starts))]
+pub fn commits_have_starts()
+    ensures { CommitsHaveStarts }
+{}
+
+/// Of two transactions that overlap and commit changes of one row, never both: where the later commit's transaction does not
+/// see the earlier commit, no row is in both.
+#[tactic(auto, using(crate::proofs::Wins::first_committer_wins))]
+pub fn first_committer_wins()
+    ensures { FirstCommitterWins }
 {}
