@@ -1,5 +1,5 @@
 -- The rows that a transaction may change: no commit above its start has them, and no other session keeps them.
-use Rattle.std.proofs.Common.{◌≡◌, ◌⊎◌, inl, inr, ⊎_elim, ℕ, zero, suc, ◌+◌, ◌-◌, ◌<◌, ◌≤◌, Bool, true, false, List, [], ◌∷◌, ◌++◌, length, replicate, ap, sym, refl, subst, ◌∙◌, arith, slice_get, slice_set, Option, Some, None, length-append}
+use Rattle.std.proofs.Common.{◌≡◌, ⊎_elim, ℕ, ◌<◌, ◌≤◌, true, List, [], ◌∷◌, ◌++◌, length, sym, subst, arith, slice_get, slice_set, Some, length-append}
 use Rattle.std.proofs.lemmas.Option.{slice_get_within}
 use Rattle.dk_types.specs.declared.net.Commit.{Commit}
 use Rattle.dk_si.specs.declared.machine.Session.{Session}
@@ -57,7 +57,8 @@ free_there commits sessions place k start table row new session apart at has own
 }
 
 -- a session takes the place of its former state
-pub replaced : (commits : List Commit) (sessions : List Session) (starts : List ℕ) (place : ℕ) (new : Session) → Fair commits sessions starts
+pub replaced : (commits : List Commit) (sessions : List Session) (starts : List ℕ) (place : ℕ) (new : Session)
+    → Fair commits sessions starts
     → ((table row : ℕ) → keeps table row new ≡ true → Free commits sessions place (start_in new) table row)
     → Fair commits (slice_set sessions place new) starts
 replaced commits sessions starts place new fair own = record {
@@ -87,7 +88,8 @@ free_behind commits sessions place k start own_start table row new session commi
 }
 
 -- the law for a list with one commit more
-wins_behind : (commits : List Commit) (sessions : List Session) (starts : List ℕ) (place own_start : ℕ) (commit : Commit) → Fair commits sessions starts
+wins_behind : (commits : List Commit) (sessions : List Session) (starts : List ℕ) (place own_start : ℕ) (commit : Commit)
+    → Fair commits sessions starts
     → ((table row : ℕ) → commit_has table row commit ≡ true → Free commits sessions place own_start table row)
     → (earlier later start : ℕ) (first second : Commit) (table row : ℕ)
     → slice_get (commits ++ commit ∷ []) earlier ≡ Some first → slice_get (commits ++ commit ∷ []) later ≡ Some second
@@ -116,7 +118,8 @@ wins_behind commits sessions starts place own_start commit fair own earlier late
     (last_place commits commit later second at_second)
 
 -- a session commits rows that are free for it, and keeps none
-pub committed : (commits : List Commit) (sessions : List Session) (starts : List ℕ) (place start : ℕ) (new : Session) (commit : Commit) → Fair commits sessions starts
+pub committed : (commits : List Commit) (sessions : List Session) (starts : List ℕ) (place start : ℕ) (new : Session) (commit : Commit)
+    → Fair commits sessions starts
     → ((table row : ℕ) → keeps table row new ≡ true → ⊥)
     → ((table row : ℕ) → commit_has table row commit ≡ true → Free commits sessions place start table row)
     → Fair (commits ++ commit ∷ []) (slice_set sessions place new) (starts ++ start ∷ [])
@@ -124,7 +127,8 @@ committed commits sessions starts place start new commit fair none own = record 
   even = let even = fair.even in omega (arith, length-append starts (start ∷ []), length-append commits (commit ∷ []));
   free = λ k session table row at has. ⊎_elim
       (λ h. absurd (none table row (subst (λ now. keeps table row now ≡ true) (sym h.1) has)))
-      (λ h. free_behind commits sessions place k (start_in session) start table row new session commit h.0 h.1 has (none table row) (own table row) (fair.free k session table row h.1 has))
+      (λ h. free_behind commits sessions place k (start_in session) start table row new session commit h.0 h.1 has (none table row)
+      (own table row) (fair.free k session table row h.1 has))
       (set_place sessions place new k session at);
   wins = wins_behind commits sessions starts place start commit fair own;
 }

@@ -1,10 +1,9 @@
 -- An answered transaction keeps and commits rows that are free for it.
-use Rattle.std.proofs.Common.{◌≡◌, ◌⊎◌, ⊎_elim, ℕ, ◌-◌, ◌<◌, Bool, true, false, List, [], ◌∷◌, sym, refl, subst, Option, Some, None}
+use Rattle.std.proofs.Common.{◌≡◌, ⊎_elim, ℕ, ◌-◌, ◌<◌, Bool, true, false, List, [], ◌∷◌, refl, subst, Option, Some, None}
 use Rattle.std.specs.Prelude.{not, if◌then◌else◌}
 use Rattle.std.proofs.lemmas.Bool.{false≢true, and_parts, or_parts, not-true, both_ways}
 use Rattle.dk_types.specs.declared.net.TableNet.{TableNet}
 use Rattle.dk_types.specs.declared.net.Commit.{Commit}
-use Rattle.dk_types.specs.declared.net.Commit.TheVariants as act
 use Rattle.dk_types.specs.declared.statement.Statement.{Statement}
 use Rattle.dk_types.specs.declared.reply.Receipt.{Receipt}
 use Rattle.dk_types.specs.declared.reply.Reply.{Reply}
@@ -24,7 +23,7 @@ use Rattle.dk_si.specs.declared.machine.Touched.{Touched}
 use Rattle.dk_si.specs.declared.machine.Machine.{Machine}
 use Rattle.dk_si.specs.declared.machine.Move.{Move}
 use Rattle.dk_si.specs.Nets.{net_has, has_id}
-use Rattle.dk_si.specs.Machine.{kind_of, asks_for, aborts, committed_count, meaning_in, meaning_now, touched_in, net_after, net_behind, is_own, goes_on, ends, ends_own, refused, creation, changed, moves}
+use Rattle.dk_si.specs.Machine.{kind_of, asks_for, aborts, committed_count, meaning_in, meaning_now, touched_in, net_after, net_behind, is_own, goes_on, ends, creation, changed, moves}
 use Rattle.dk_si.specs.Held.{commit_has, is_rollback, keeps, blocked}
 use Rattle.dk_si.specs.Steps.{is_ended, none_blocked, commit_answers, open_answers, answers}
 use Rattle.dk_si.proofs.Rows.{touched_rows}
@@ -110,13 +109,15 @@ neither : (b : Bool) → (if b then false else false) ≡ true → ⊥
 neither true e = false≢true e
 neither false e = false≢true e
 
-no_commit : (commits : List Commit) (net : List TableNet) (count : ℕ) (receipt : Option Receipt) → commit_answers commits net (told.Changed count receipt) ≡ true → ⊥
+no_commit : (commits : List Commit) (net : List TableNet) (count : ℕ) (receipt : Option Receipt)
+    → commit_answers commits net (told.Changed count receipt) ≡ true → ⊥
 no_commit commits [] count receipt e = false≢true e
 no_commit commits (part ∷ net) count receipt e = false≢true e
 
 -- a change is answered where no row that it touches is blocked
 unblocked : (opened : List Table) (session : ℕ) (before : List Entry) (machine : Machine) (active : Active) (statement : Statement) (kind : Kind)
-    → (count : ℕ) (receipt : Option Receipt) → open_answers opened session before machine active statement kind (told.Changed count receipt) ≡ true
+    → (count : ℕ) (receipt : Option Receipt)
+    → open_answers opened session before machine active statement kind (told.Changed count receipt) ≡ true
     → none_blocked machine session active.start (touched_in opened machine.commits active (meaning_in opened machine.commits active (Good statement))) ≡ true
 unblocked opened session before machine active statement form.Begin count receipt e = absurd (neither active.fresh e)
 unblocked opened session before machine active statement form.Commit count receipt e = absurd (no_commit machine.commits active.net count receipt e)

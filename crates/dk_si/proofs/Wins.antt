@@ -1,6 +1,6 @@
 -- Of two overlapping transactions that commit changes of one row, never both: each step keeps what is fair.
-use Rattle.std.proofs.Common.{◌≡◌, ℕ, ◌+◌, ◌-◌, ◌<◌, Bool, true, false, List, [], ◌∷◌, ◌++◌, length, map, sym, refl, subst, Option, Some, None, option_to_list, slice_get, slice_set, append-nil, append_assoc, ap}
-use Rattle.std.specs.Prelude.{is_none, not}
+use Rattle.std.proofs.Common.{arith, ◌≡◌, ℕ, ◌-◌, ◌<◌, true, List, [], ◌∷◌, ◌++◌, length, map, sym, refl, subst, Option, Some, None, option_to_list, slice_get, slice_set, append-nil, append_assoc}
+use Rattle.std.specs.Prelude.{is_none}
 use Rattle.std.proofs.lemmas.Bool.{false≢true, and_from, and_parts, not_from_false}
 use Rattle.dk_types.specs.declared.net.Commit.{Commit}
 use Rattle.dk_types.specs.declared.reply.Reply.{Reply}
@@ -9,7 +9,6 @@ use Rattle.dk_si.specs.declared.database.Table.{Table}
 use Rattle.dk_si.specs.declared.history.Asked.{Asked}
 use Rattle.dk_si.specs.declared.history.Entry.{Entry}
 use Rattle.dk_si.specs.declared.history.Entry.TheVariants as history
-use Rattle.dk_si.specs.declared.machine.Active.{Active}
 use Rattle.dk_si.specs.declared.machine.Transaction.{Transaction}
 use Rattle.dk_si.specs.declared.machine.Transaction.TheVariants as state
 use Rattle.dk_si.specs.declared.machine.Past.{Past}
@@ -19,11 +18,11 @@ use Rattle.dk_si.specs.declared.machine.Machine.{Machine}
 use Rattle.dk_si.specs.declared.machine.TheConstants.{SESSIONS}
 use Rattle.dk_si.specs.Machine.{first_state, idle, untouched, asks_for, session_at, answered, leaves, moves, touched_by, past_of, called, begins, replied, next}
 use Rattle.dk_si.specs.Held.{is_rollback, keeps}
-use Rattle.dk_si.specs.Steps.{are_steps, is_step, answers, may_call, may_begin, may_reply, if_there}
+use Rattle.dk_si.specs.Steps.{are_steps, is_step, may_call, may_begin, may_reply, if_there}
 use Rattle.dk_si.specs.Laws.{state_after, reply_starts, entry_starts, starts_of, CommitsHaveStarts, FirstCommitterWins}
 use Rattle.dk_si.proofs.Places.{found_at, same_copies}
 use Rattle.dk_si.proofs.Free.{Free, Fair, start_in, replaced, committed}
-use Rattle.dk_si.proofs.Moves.{Allowed, Rows, answer_allows}
+use Rattle.dk_si.proofs.Moves.{Allowed, answer_allows}
 
 abbrev IsFair : Machine → List ℕ → Type 0
 IsFair machine starts = Fair machine.commits machine.sessions starts
@@ -33,7 +32,8 @@ abbrev KeepsNothing : Session → Type 0
 KeepsNothing session = (table row : ℕ) → keeps table row session ≡ true → ⊥
 
 -- a session that keeps nothing takes the place of its former state
-emptied : (commits : List Commit) (sessions : List Session) (starts : List ℕ) (place : ℕ) (new : Session) → Fair commits sessions starts → KeepsNothing new
+emptied : (commits : List Commit) (sessions : List Session) (starts : List ℕ) (place : ℕ) (new : Session) → Fair commits sessions starts
+    → KeepsNothing new
     → Fair commits (slice_set sessions place new) (starts ++ [])
 emptied commits sessions starts place new fair none =
     subst (Fair commits (slice_set sessions place new)) (sym (append-nil starts))
@@ -126,7 +126,8 @@ begun_step : (machine : Machine) (starts : List ℕ) (session number start : ℕ
 begun_step machine starts session number start None fair may = absurd (false≢true may)
 begun_step machine starts session number start (Some before) fair may = begun_fair machine starts session number start before fair
 
-reply_step : (opened : List Table) (before : List Entry) (machine : Machine) (starts : List ℕ) (number : ℕ) (reply : Reply) (found : Option Session) → IsFair machine starts
+reply_step : (opened : List Table) (before : List Entry) (machine : Machine) (starts : List ℕ) (number : ℕ) (reply : Reply) (found : Option Session)
+    → IsFair machine starts
     → session_at machine.sessions number ≡ found → if_there (may_reply opened number before machine reply) found ≡ true
     → IsFair (elim found as (λ x. Machine) [ None ↦ machine | Some session ↦ replied opened machine number session reply ])
     (starts ++ elim found as (λ x. List ℕ) [ None ↦ [] | Some session ↦ reply_starts opened machine reply session ])
@@ -144,8 +145,10 @@ step_fair opened before machine starts (history.Begun session number start) fair
 step_fair opened before machine starts (history.Reply session reply) fair step =
     reply_step opened before machine starts session reply (session_at machine.sessions session) fair refl step
 
-steps_fair : (opened : List Table) (before : List Entry) (machine : Machine) (starts : List ℕ) (entries : List Entry) → IsFair machine starts
-    → are_steps opened before machine entries ≡ true → IsFair (state_after opened machine entries) (starts ++ starts_of opened machine entries)
+steps_fair : (opened : List Table) (before : List Entry) (machine : Machine) (starts : List ℕ) (entries : List Entry)
+    → IsFair machine starts
+    → are_steps opened before machine entries ≡ true
+    → IsFair (state_after opened machine entries) (starts ++ starts_of opened machine entries)
 steps_fair opened before machine starts [] fair steps = subst (IsFair machine) (sym (append-nil starts)) fair
 steps_fair opened before machine starts (entry ∷ entries) fair steps =
     let h = and_parts _ _ steps in
@@ -170,5 +173,5 @@ pub commits_have_starts : CommitsHaveStarts
 commits_have_starts opened entries steps = (fair opened entries steps).even
 
 pub first_committer_wins : FirstCommitterWins
-first_committer_wins opened entries earlier later start first second table row steps at_first at_second at_start before unseen one other =
-    (fair opened entries steps).wins earlier later start first second table row at_first at_second at_start before unseen one other
+first_committer_wins opened entries earlier later seen start first second table row steps one other unseen before =
+    (fair opened entries steps).wins (earlier - 1) (later - 1) start first second table row one.made other.made other.begun (omega arith) (omega arith)

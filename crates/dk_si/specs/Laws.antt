@@ -1,5 +1,5 @@
 -- Laws of the machine, each the contract of a function of its own.
-use Rattle.std.specs.Prelude.{◌≡◌, ℕ, ◌+◌, ◌<◌, ◌≤◌, true, List, [], ◌∷◌, ◌++◌, map, take, length, slice_get, Option, Some, None, option_to_list}
+use Rattle.std.specs.Prelude.{◌≡◌, ℕ, ◌+◌, ◌-◌, ◌<◌, ◌≤◌, true, List, [], ◌∷◌, ◌++◌, map, take, length, slice_get, Some, None, option_to_list}
 use Rattle.dk_types.specs.declared.value.Value.{Value}
 use Rattle.dk_types.specs.declared.net.Commit.{Commit}
 use Rattle.dk_types.specs.declared.net.TableNet.{TableNet}
@@ -79,12 +79,16 @@ CommitsHaveStarts = (opened : List Table) (entries : List Entry)
     → are_steps opened [] first_state entries ≡ true
     → length (starts_of opened first_state entries) ≡ length (state_after opened first_state entries).commits
 
--- of two commits of which the later one's transaction does not see the earlier one, no row is in both
+-- after these entries that is the commit of the number, and the start of its transaction
+pub record IsCommit (opened : List Table) (entries : List Entry) (number start : ℕ) (commit : Commit) : Type 0 where
+  pub made : slice_get (state_after opened first_state entries).commits (number - 1) ≡ Some commit
+  pub begun : slice_get (starts_of opened first_state entries) (number - 1) ≡ Some start
+
+-- a transaction that does not see a commit before its own changes no row of it: of two that overlap and change one row,
+-- the later one never commits
 abbrev pub FirstCommitterWins : Type 0
-FirstCommitterWins = (opened : List Table) (entries : List Entry) (earlier later start : ℕ) (first second : Commit) (table row : ℕ)
+FirstCommitterWins = (opened : List Table) (entries : List Entry) (earlier later seen start : ℕ) (first second : Commit) (table row : ℕ)
     → are_steps opened [] first_state entries ≡ true
-    → slice_get (state_after opened first_state entries).commits earlier ≡ Some first
-    → slice_get (state_after opened first_state entries).commits later ≡ Some second
-    → slice_get (starts_of opened first_state entries) later ≡ Some start
-    → earlier < later → start ≤ earlier
+    → IsCommit opened entries earlier seen first → IsCommit opened entries later start second
+    → start < earlier → earlier < later
     → commit_has table row first ≡ true → commit_has table row second ≡ true → ⊥

@@ -37,9 +37,7 @@ pub fn commits_have_starts()
     ensures { CommitsHaveStarts }
 {}
 
-/// Of two transactions that overlap and commit changes of one row, never both: where the later commit's transaction does not
-/// see the earlier commit, no row is in both.
-#[tactic(auto, using(crate::proofs::Wins::first_committer_wins))]
+/// First committer wins: of two transactions that overlap and change one row, never both commit.
 pub fn first_committer_wins()
     ensures { FirstCommitterWins }
 {}
