@@ -5,3 +5,8 @@ pub mod Lists
 pub mod Meant
 pub mod Later
 pub mod Text
+pub mod Rows
+pub mod Places
+pub mod Free
+pub mod Moves
+pub mod Wins
