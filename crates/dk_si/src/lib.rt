@@ -22,6 +22,8 @@ pub mod meaning;
 mod nets;
 mod refusals;
 mod same;
+#[cfg(test)]
+mod scripts;
 mod since;
 mod slices;
 mod step;
