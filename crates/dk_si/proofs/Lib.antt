@@ -5,3 +5,5 @@ pub mod Lists
 pub mod Meant
 pub mod Later
 pub mod Text
+pub mod Holders
+pub mod Alone

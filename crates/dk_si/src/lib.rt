@@ -20,6 +20,7 @@ mod legal;
 mod machine;
 pub mod meaning;
 mod nets;
+pub mod one_thread;
 mod refusals;
 mod same;
 #[cfg(test)]

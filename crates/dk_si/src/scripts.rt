@@ -168,67 +168,55 @@ fn a_snapshot_stays_beside_a_commit(rt: HostRuntime) -> Result<(), Fail> {
     Ok(())
 }
 
+/// A transaction that has updated both rows, and its COMMIT.
+const UPDATES: Acts<'static> = &[
+    (1, Act::Begin),
+    (1, Act::Begun(0, 0)),
+    (1, Act::Started(0)),
+    (1, Act::Update(11)),
+    (1, Act::Changed(2)),
+];
+
+const COMMITS: Acts<'static> = &[(1, Act::Commit), (1, Act::Committed(1))];
+
+/// A session that begins where so many commits stand, and reads.
+fn reader(start: u64) -> [(u32, Act<'static>); 4] {
+    [
+        (2, Act::Begin),
+        (2, Act::Begun(1, start)),
+        (2, Act::Started(start)),
+        (2, Act::Select),
+    ]
+}
+
+/// Whether these lists, one after the other, are a legal history of a table with the rows 10 and 20.
+fn is_legal_with(alloc: Global, lists: &[Acts<'_>]) -> Result<bool, OutOfMemory> {
+    let mut acts = Vec::new(alloc);
+    for list in lists {
+        for act in *list {
+            acts.push(*act)?;
+        }
+    }
+    is_legal_from(alloc, &opened(alloc, &[10, 20])?, 1, acts.as_slice())
+}
+
 #[test]
 fn a_reader_before_a_commit_and_one_after_it(rt: HostRuntime) -> Result<(), Fail> {
     let alloc = rt.alloc();
-    let database = opened(alloc, &[10, 20])?;
-    let writes = [
-        (1, Act::Begin),
-        (1, Act::Begun(0, 0)),
-        (1, Act::Started(0)),
-        (1, Act::Update(11)),
-        (1, Act::Changed(2)),
-        (1, Act::Commit),
-        (1, Act::Committed(1)),
-    ];
-    let begin = (2, Act::Begin);
-    let select = (2, Act::Select);
-    let after = [
-        writes[0],
-        writes[1],
-        writes[2],
-        writes[3],
-        writes[4],
-        writes[5],
-        writes[6],
-        begin,
-        (2, Act::Begun(1, 1)),
-        (2, Act::Started(1)),
-        select,
-        (2, Act::Rows(&[11, 11])),
-    ];
-    assert!(rt; is_legal_from(alloc, &database, 1, &after)?);
-    let before = [
-        writes[0],
-        writes[1],
-        writes[2],
-        writes[3],
-        writes[4],
-        begin,
-        (2, Act::Begun(1, 0)),
-        (2, Act::Started(0)),
-        writes[5],
-        writes[6],
-        select,
-        (2, Act::Rows(&[10, 20])),
-    ];
-    assert!(rt; is_legal_from(alloc, &database, 1, &before)?);
+    let new: Acts<'_> = &[(2, Act::Rows(&[11, 11]))];
+    let old: Acts<'_> = &[(2, Act::Rows(&[10, 20]))];
     // the rows of one commit are seen together
-    let torn = [
-        writes[0],
-        writes[1],
-        writes[2],
-        writes[3],
-        writes[4],
-        begin,
-        (2, Act::Begun(1, 0)),
-        (2, Act::Started(0)),
-        writes[5],
-        writes[6],
-        select,
-        (2, Act::Rows(&[11, 20])),
-    ];
-    assert!(rt; !is_legal_from(alloc, &database, 1, &torn)?);
+    let torn: Acts<'_> = &[(2, Act::Rows(&[11, 20]))];
+    let after = reader(1);
+    assert!(rt; is_legal_with(alloc, &[UPDATES, COMMITS, &after, new])?);
+    assert!(rt; !is_legal_with(alloc, &[UPDATES, COMMITS, &after, old])?);
+    assert!(rt; !is_legal_with(alloc, &[UPDATES, COMMITS, &after, torn])?);
+    let before = reader(0);
+    let select: Acts<'_> = &[before[3]];
+    let begins: Acts<'_> = &[before[0], before[1], before[2]];
+    assert!(rt; is_legal_with(alloc, &[UPDATES, begins, COMMITS, select, old])?);
+    assert!(rt; !is_legal_with(alloc, &[UPDATES, begins, COMMITS, select, new])?);
+    assert!(rt; !is_legal_with(alloc, &[UPDATES, begins, COMMITS, select, torn])?);
     Ok(())
 }
 
