@@ -8,3 +8,6 @@ pub mod Steps
 pub mod Exchanges
 pub mod Legal
 pub mod Laws
+pub mod OneThread
+pub mod Answer
+pub mod AnswerLaws

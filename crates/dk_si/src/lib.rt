@@ -20,8 +20,11 @@ mod legal;
 mod machine;
 pub mod meaning;
 mod nets;
+pub mod one_thread;
 mod refusals;
 mod same;
+#[cfg(test)]
+mod scripts;
 mod since;
 mod slices;
 mod step;

@@ -21,15 +21,19 @@ fn rows(alloc: Global, numbers: &[i64]) -> Result<Rows, OutOfMemory> {
     Ok(rows)
 }
 
-/// A database with one table `t (a BIGINT)` that has these numbers.
-fn opened(alloc: Global, numbers: &[i64]) -> Result<Database, OutOfMemory> {
+fn columns(alloc: Global) -> Result<Vec<Column>, OutOfMemory> {
     let mut columns = Vec::new(alloc);
     columns.push(Column {
         name: bytes(alloc, b"a")?,
         kind: ColType::Big,
     })?;
+    Ok(columns)
+}
+
+/// A database with one table `t (a BIGINT)` that has these numbers.
+pub fn opened(alloc: Global, numbers: &[i64]) -> Result<Database, OutOfMemory> {
     let mut tables = List::new(alloc);
-    if let Ok(schema) = Schema::new(columns) {
+    if let Ok(schema) = Schema::new(columns(alloc)?) {
         let mut present = List::new(alloc);
         for row in rows(alloc, numbers)?.into_vec() {
             present.push(Some(row))?;
@@ -56,7 +60,11 @@ fn added(alloc: Global, numbers: &[i64]) -> Result<TableNet, OutOfMemory> {
 
 /// What a session does, in few words.
 #[derive(Clone, Copy)]
-enum Act<'a> {
+pub enum Act<'a> {
+    /// CREATE TABLE t (a BIGINT)
+    Create,
+    /// SELECT of a table u, which is not there
+    SelectMissing,
     Begin,
     Commit,
     Rollback,
@@ -68,6 +76,7 @@ enum Act<'a> {
     Insert(&'a [i64]),
     Begun(u64, u64),
     Started(u64),
+    Created(u64),
     Rows(&'a [i64]),
     Changed(u64),
     /// The count and the number of the commit.
@@ -109,6 +118,14 @@ fn told(session: u32, reply: Reply) -> Entry {
 fn call(alloc: Global, session: u32, act: &Act<'_>) -> Result<Option<Entry>, OutOfMemory> {
     let table = bytes(alloc, b"t")?;
     Ok(match act {
+        Act::Create => {
+            let columns = List::from_vec(columns(alloc)?);
+            Some(asked(session, Statement::Create { table, columns }))
+        }
+        Act::SelectMissing => {
+            let table = bytes(alloc, b"u")?;
+            Some(asked(session, Statement::Select { table }))
+        }
         Act::Begin => Some(asked(session, Statement::Begin)),
         Act::Commit => Some(asked(session, Statement::Commit)),
         Act::Rollback => Some(asked(session, Statement::Rollback)),
@@ -127,6 +144,9 @@ fn call(alloc: Global, session: u32, act: &Act<'_>) -> Result<Option<Entry>, Out
 fn reply(alloc: Global, act: &Act<'_>) -> Result<Reply, OutOfMemory> {
     Ok(match act {
         Act::Started(start) => Reply::Begun { start: *start },
+        Act::Created(number) => Reply::Created {
+            receipt: receipt(*number),
+        },
         Act::Rows(numbers) => Reply::Rows {
             rows: rows(alloc, numbers)?,
         },
@@ -164,13 +184,23 @@ fn entry(alloc: Global, session: u32, act: &Act<'_>) -> Result<Entry, OutOfMemor
     }
 }
 
-/// Whether these acts are a legal history of `t` with the rows 1 and 2, opened at iteration 1.
-fn is_legal(alloc: Global, acts: &[(u32, Act<'_>)]) -> Result<bool, OutOfMemory> {
+/// Whether these acts are a legal history of a database, opened at that iteration.
+pub fn is_legal_from(
+    alloc: Global,
+    opened: &Database,
+    iteration: u64,
+    acts: &[(u32, Act<'_>)],
+) -> Result<bool, OutOfMemory> {
     let mut entries = List::new(alloc);
     for (session, act) in acts {
         entries.push(entry(alloc, *session, act)?)?;
     }
-    run_slow(alloc, &opened(alloc, &[1, 2])?, 1, &entries)
+    run_slow(alloc, opened, iteration, &entries)
+}
+
+/// Whether these acts are a legal history of `t` with the rows 1 and 2, opened at iteration 1.
+pub fn is_legal(alloc: Global, acts: &[(u32, Act<'_>)]) -> Result<bool, OutOfMemory> {
+    is_legal_from(alloc, &opened(alloc, &[1, 2])?, 1, acts)
 }
 
 /// Two sessions: the second updates and commits, and the first, which doesn't see it, then fails to update.
@@ -235,7 +265,7 @@ fn first_then(
     is_legal(alloc, acts.as_slice())
 }
 
-fn conflict(row: u64, by: Holder) -> Act<'static> {
+pub fn conflict(row: u64, by: Holder) -> Act<'static> {
     Act::Refused(Refusal::Conflict { table: 0, row, by })
 }
 
