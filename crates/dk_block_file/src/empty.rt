@@ -2,6 +2,7 @@
 ghost use Rattle.std.specs.Prelude.{◌≡◌, ◌⊎◌, ◌≤◌, ◌++◌, ◌∷◌, [], max, replicate, List, ℕ, Some, Err, length, IfOk, IfErr, IfSome, OnOk, OnErr};
 ghost use Rattle.std.specs.Int.{w64, to_le_bytes};
 ghost use Rattle.std.proofs.Common.{option_map};
+ghost use Rattle.dk_bytes.specs.Checksum.{checksum_of};
 ghost use Rattle.dk_device.specs.Causes.{HasCause, Rose};
 ghost use Rattle.dk_device.specs.Disk.{overlaid};
 ghost use Rattle.dk_device.specs.declared.device.FileId.{FileId};
@@ -34,13 +35,19 @@ fn log_fields(bytes: &mut [u8], iteration: u64)
     number.copy_from_slice(&iteration.to_le_bytes());
 }
 
+fn log_sum(fields: &[u8]) -> u64
+    ensures { result ≡ checksum_of fields.now }
+{
+    checksum(fields)
+}
+
 fn fill_log_header(bytes: &mut [u8], iteration: u64)
     requires { length bytes.old ≡ 24 }
     ensures { bytes.new ≡ log_bytes iteration }
 {
     let (front, sum) = bytes.split_at_mut(16);
     log_fields(front, iteration);
-    sum.copy_from_slice(&checksum(front).to_le_bytes());
+    sum.copy_from_slice(&log_sum(front).to_le_bytes());
 }
 
 /// A main header, a database header with an open gate, and one of zeros.
