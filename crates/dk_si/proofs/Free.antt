@@ -19,6 +19,8 @@ pub record Free (commits : List Commit) (sessions : List Session) (place start t
 -- each row that a transaction keeps is free for it, and of two commits that overlap no row is in both
 pub record Fair (commits : List Commit) (sessions : List Session) (starts : List ℕ) : Type 0 where
   pub even : length starts ≡ length commits
+  pub seen : (place : ℕ) (session : Session) → slice_get sessions place ≡ Some session → start_in session ≤ length commits
+  pub earlier : (k start : ℕ) → slice_get starts k ≡ Some start → start ≤ k
   pub free : (place : ℕ) (session : Session) (table row : ℕ) → slice_get sessions place ≡ Some session → keeps table row session ≡ true
       → Free commits sessions place (start_in session) table row
   pub wins : (earlier later start : ℕ) (first second : Commit) (table row : ℕ)
@@ -56,13 +58,27 @@ free_there commits sessions place k start table row new session apart at has own
       (set_place sessions place new m other there);
 }
 
+seen_at : (commits : List Commit) (sessions : List Session) (place k : ℕ) (new session : Session) → start_in new ≤ length commits
+    → (slice_get sessions k ≡ Some session → start_in session ≤ length commits)
+    → slice_get (slice_set sessions place new) k ≡ Some session → start_in session ≤ length commits
+seen_at commits sessions place k new session within old at =
+    ⊎_elim (λ h. subst (λ now. start_in now ≤ length commits) h.1 within) (λ h. old h.1) (set_place sessions place new k session at)
+
+earlier_behind : (commits : List Commit) (starts : List ℕ) (own_start : ℕ) → length starts ≡ length commits → own_start ≤ length commits
+    → ((k start : ℕ) → slice_get starts k ≡ Some start → start ≤ k)
+    → (k start : ℕ) → slice_get (starts ++ own_start ∷ []) k ≡ Some start → start ≤ k
+earlier_behind commits starts own_start even within old k start at =
+    ⊎_elim (old k start) (λ h. let end = h.0 in let is = h.1 in omega arith) (last_place starts own_start k start at)
+
 -- a session takes the place of its former state
-pub replaced : (commits : List Commit) (sessions : List Session) (starts : List ℕ) (place : ℕ) (new : Session)
-    → Fair commits sessions starts
+pub replaced : (commits : List Commit) (sessions : List Session) (starts : List ℕ) (place : ℕ) (new : Session) → Fair commits sessions starts
+    → start_in new ≤ length commits
     → ((table row : ℕ) → keeps table row new ≡ true → Free commits sessions place (start_in new) table row)
     → Fair commits (slice_set sessions place new) starts
-replaced commits sessions starts place new fair own = record {
+replaced commits sessions starts place new fair within own = record {
   even = fair.even;
+  seen = λ k session at. seen_at commits sessions place k new session within (fair.seen k session) at;
+  earlier = fair.earlier;
   free = λ k session table row at has. ⊎_elim
       (λ h. free_at commits sessions place k table row new session h.0 h.1 (own table row (subst (λ now. keeps table row now ≡ true) (sym h.1) has)))
       (λ h. free_there commits sessions place k (start_in session) table row new session h.0 h.1 has (own table row) (fair.free k session table row h.1 has))
@@ -119,12 +135,15 @@ wins_behind commits sessions starts place own_start commit fair own earlier late
 
 -- a session commits rows that are free for it, and keeps none
 pub committed : (commits : List Commit) (sessions : List Session) (starts : List ℕ) (place start : ℕ) (new : Session) (commit : Commit)
-    → Fair commits sessions starts
+    → Fair commits sessions starts → start_in new ≤ length commits → start ≤ length commits
     → ((table row : ℕ) → keeps table row new ≡ true → ⊥)
     → ((table row : ℕ) → commit_has table row commit ≡ true → Free commits sessions place start table row)
     → Fair (commits ++ commit ∷ []) (slice_set sessions place new) (starts ++ start ∷ [])
-committed commits sessions starts place start new commit fair none own = record {
+committed commits sessions starts place start new commit fair now_within within none own = record {
   even = let even = fair.even in omega (arith, length-append starts (start ∷ []), length-append commits (commit ∷ []));
+  seen = λ k session at. let seen = seen_at commits sessions place k new session now_within (fair.seen k session) at in
+      omega (arith, length-append commits (commit ∷ []));
+  earlier = earlier_behind commits starts start fair.even within fair.earlier;
   free = λ k session table row at has. ⊎_elim
       (λ h. absurd (none table row (subst (λ now. keeps table row now ≡ true) (sym h.1) has)))
       (λ h. free_behind commits sessions place k (start_in session) start table row new session commit h.0 h.1 has (none table row)

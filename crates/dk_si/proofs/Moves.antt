@@ -83,8 +83,10 @@ Behind P opened commits active asked (told.Refused refusal) = Unit {0}
 
 move_allows : (P : ℕ → ℕ → Type 0) (opened : List Table) (commits : List Commit) (active : Active) (asked : Option Asked) (reply : Reply)
     → Rows P active.net → Behind P opened commits active asked reply → Allows P active.start (moves opened commits active asked reply)
-move_allows P opened commits active asked (told.Created receipt) rows behind = creation_allows P active.start active.net (meaning_now opened commits asked)
-move_allows P opened commits active asked (told.Changed count receipt) rows behind = changed_allows P active asked (net_behind opened commits active asked) receipt behind
+move_allows P opened commits active asked (told.Created receipt) rows behind =
+    creation_allows P active.start active.net (meaning_now opened commits asked)
+move_allows P opened commits active asked (told.Changed count receipt) rows behind =
+    changed_allows P active asked (net_behind opened commits active asked) receipt behind
 move_allows P opened commits active asked (told.Rows list) rows behind = own_allows P active (is_own active asked) active.net active.net rows
 move_allows P opened commits active asked (told.Begun start) rows behind = (refl, rows)
 move_allows P opened commits active asked (told.Committed receipt) rows behind = rows
@@ -133,8 +135,10 @@ free_row : (machine : Machine) (session start table row : ℕ) → 0 < session �
 free_row machine session start table row above none =
     let h = or_parts _ _ none in
     record {
-      clear = λ k commit within at has. both_ways (commit_has table row commit) (none_from (commit_has table row) machine.commits start k commit h.0 within at) has;
-      alone = λ k other apart at has. both_ways (keeps table row other) (none_other (keeps table row) machine.sessions session k other h.1 above apart at) has;
+      clear = λ k commit within at has. both_ways (commit_has table row commit)
+          (none_from (commit_has table row) machine.commits start k commit h.0 within at) has;
+      alone = λ k other apart at has. both_ways (keeps table row other)
+          (none_other (keeps table row) machine.sessions session k other h.1 above apart at) has;
     }
 
 free_touched : (machine : Machine) (session start : ℕ) (touched : Touched) → 0 < session → none_blocked machine session start touched ≡ true
@@ -143,7 +147,8 @@ free_touched machine session start touched above none row has =
     free_row machine session start touched.table row above
     (not-true _ (each_id (λ row. not (blocked machine session start touched.table row)) touched.ids row none has))
 
-changed_behind : (opened : List Table) (session : ℕ) (before : List Entry) (machine : Machine) (active : Active) (asked : Asked) (count : ℕ) (receipt : Option Receipt)
+changed_behind : (opened : List Table) (session : ℕ) (before : List Entry) (machine : Machine) (active : Active)
+    → (asked : Asked) (count : ℕ) (receipt : Option Receipt)
     → 0 < session → Rows (Free machine.commits machine.sessions (session - 1) active.start) active.net
     → answers opened session before machine (state.Open active) asked (told.Changed count receipt) ≡ true
     → Rows (Free machine.commits machine.sessions (session - 1) active.start) (net_behind opened machine.commits active (Some asked))
@@ -155,7 +160,8 @@ changed_behind opened session before machine active (Good statement) count recei
     (free_touched machine session active.start (touched_in opened machine.commits active meaning) above
     (unblocked opened session before machine active statement (kind_of statement) count receipt e))
 
-told_behind : (opened : List Table) (session : ℕ) (before : List Entry) (machine : Machine) (active : Active) (asked : Asked) (reply : Reply)
+told_behind : (opened : List Table) (session : ℕ) (before : List Entry) (machine : Machine) (active : Active)
+    → (asked : Asked) (reply : Reply)
     → 0 < session → Rows (Free machine.commits machine.sessions (session - 1) active.start) active.net
     → answers opened session before machine (state.Open active) asked reply ≡ true
     → Behind (Free machine.commits machine.sessions (session - 1) active.start) opened machine.commits active (Some asked) reply
@@ -170,7 +176,8 @@ told_behind opened session before machine active asked (told.Checkpointed iterat
 told_behind opened session before machine active asked (told.Refused refusal) above rows e = tt
 
 -- a ROLLBACK in an open transaction is answered by its end
-rollback_ends : (opened : List Table) (session : ℕ) (before : List Entry) (machine : Machine) (active : Active) (statement : Statement) (kind : Kind) (reply : Reply)
+rollback_ends : (opened : List Table) (session : ℕ) (before : List Entry) (machine : Machine) (active : Active)
+    → (statement : Statement) (kind : Kind) (reply : Reply)
     → is_rollback kind ≡ true → open_answers opened session before machine active statement kind reply ≡ true → is_ended reply ≡ true
 rollback_ends opened session before machine active statement form.Rollback reply is e = e
 rollback_ends opened session before machine active statement form.Begin reply is e = absurd (false≢true is)
@@ -185,7 +192,8 @@ ended_allows : (P : ℕ → ℕ → Type 0) (opened : List Table) (commits : Lis
 ended_allows P opened commits active asked told.Ended e = tt
 ended_allows P opened commits active asked other e = absurd (false≢true e)
 
-rolled_back : (P : ℕ → ℕ → Type 0) (opened : List Table) (session : ℕ) (before : List Entry) (machine : Machine) (active : Active) (asked : Asked) (reply : Reply)
+rolled_back : (P : ℕ → ℕ → Type 0) (opened : List Table) (session : ℕ) (before : List Entry) (machine : Machine) (active : Active)
+    → (asked : Asked) (reply : Reply)
     → asks_for is_rollback (Some asked) ≡ true → answers opened session before machine (state.Open active) asked reply ≡ true
     → Allows P active.start (moves opened machine.commits active (Some asked) reply)
 rolled_back P opened session before machine active Unread reply is e = absurd (false≢true is)
@@ -195,7 +203,8 @@ rolled_back P opened session before machine active (Good statement) reply is e =
     (rollback_ends opened session before machine active statement (kind_of statement) reply is e)
 
 -- an answer to an open transaction moves it so, where the rows of its net are free unless its ROLLBACK is in flight
-pub answer_allows : (opened : List Table) (session : ℕ) (before : List Entry) (machine : Machine) (active : Active) (asked : Asked) (reply : Reply) (rolls : Bool)
+pub answer_allows : (opened : List Table) (session : ℕ) (before : List Entry) (machine : Machine) (active : Active)
+    → (asked : Asked) (reply : Reply) (rolls : Bool)
     → 0 < session → asks_for is_rollback (Some asked) ≡ rolls
     → (rolls ≡ false → Rows (Free machine.commits machine.sessions (session - 1) active.start) active.net)
     → answers opened session before machine (state.Open active) asked reply ≡ true

@@ -1,7 +1,7 @@
 -- Of two overlapping transactions that commit changes of one row, never both: each step keeps what is fair.
-use Rattle.std.proofs.Common.{arith, ◌≡◌, ℕ, ◌-◌, ◌<◌, true, List, [], ◌∷◌, ◌++◌, length, map, sym, refl, subst, Option, Some, None, option_to_list, slice_get, slice_set, append-nil, append_assoc}
+use Rattle.std.proofs.Common.{arith, ◌≡◌, ℕ, ◌-◌, ◌<◌, ◌≤◌, true, List, [], ◌∷◌, ◌++◌, length, map, sym, refl, subst, Option, Some, None, option_to_list, slice_get, slice_set, append-nil, append_assoc}
 use Rattle.std.specs.Prelude.{is_none}
-use Rattle.std.proofs.lemmas.Bool.{false≢true, and_from, and_parts, not_from_false}
+use Rattle.std.proofs.lemmas.Bool.{false≢true, and_from, and_parts, not_from_false, eqb-true}
 use Rattle.dk_types.specs.declared.net.Commit.{Commit}
 use Rattle.dk_types.specs.declared.reply.Reply.{Reply}
 use Rattle.dk_types.specs.declared.reply.Reply.TheVariants as told
@@ -19,7 +19,7 @@ use Rattle.dk_si.specs.declared.machine.TheConstants.{SESSIONS}
 use Rattle.dk_si.specs.Machine.{first_state, idle, untouched, asks_for, session_at, answered, leaves, moves, touched_by, past_of, called, begins, replied, next}
 use Rattle.dk_si.specs.Held.{is_rollback, keeps}
 use Rattle.dk_si.specs.Steps.{are_steps, is_step, may_call, may_begin, may_reply, if_there}
-use Rattle.dk_si.specs.Laws.{state_after, reply_starts, entry_starts, starts_of, CommitsHaveStarts, FirstCommitterWins}
+use Rattle.dk_si.specs.Laws.{state_after, reply_starts, entry_starts, starts_of, CommitsHaveStarts, SeesEarlierCommits, FirstCommitterWins}
 use Rattle.dk_si.proofs.Places.{found_at, same_copies}
 use Rattle.dk_si.proofs.Free.{Free, Fair, start_in, replaced, committed}
 use Rattle.dk_si.proofs.Moves.{Allowed, answer_allows}
@@ -33,11 +33,10 @@ KeepsNothing session = (table row : ℕ) → keeps table row session ≡ true �
 
 -- a session that keeps nothing takes the place of its former state
 emptied : (commits : List Commit) (sessions : List Session) (starts : List ℕ) (place : ℕ) (new : Session) → Fair commits sessions starts
-    → KeepsNothing new
-    → Fair commits (slice_set sessions place new) (starts ++ [])
-emptied commits sessions starts place new fair none =
+    → start_in new ≤ length commits → KeepsNothing new → Fair commits (slice_set sessions place new) (starts ++ [])
+emptied commits sessions starts place new fair within none =
     subst (Fair commits (slice_set sessions place new)) (sym (append-nil starts))
-    (replaced commits sessions starts place new fair (λ table row has. absurd (none table row has)))
+    (replaced commits sessions starts place new fair within (λ table row has. absurd (none table row has)))
 
 kept_rows : (commits : List Commit) (sessions : List Session) (place start : ℕ) (transaction : Transaction) (touched : Touched) (past : Option Past)
     → Allowed (Free commits sessions place start) start transaction None
@@ -48,19 +47,30 @@ kept_rows commits sessions place start state.Aborted touched past allowed table 
 kept_rows commits sessions place start (state.Open active) touched past allowed table row has =
     subst (λ at. Free commits sessions place at table row) (sym allowed.0) (allowed.1 table row (and_parts _ _ has).0)
 
+kept_start : (commits : List Commit) (sessions : List Session) (place start : ℕ) (transaction : Transaction) (touched : Touched) (past : Option Past)
+    → start ≤ length commits → Allowed (Free commits sessions place start) start transaction None
+    → start_in (answered transaction touched past) ≤ length commits
+kept_start commits sessions place start state.Outside touched past within allowed = omega arith
+kept_start commits sessions place start state.Aborted touched past within allowed = omega arith
+kept_start commits sessions place start (state.Open active) touched past within allowed = subst (λ at. at ≤ length commits) (sym allowed.0) within
+
 -- a session moves and commits as it may
-moved : (commits : List Commit) (sessions : List Session) (starts : List ℕ) (place start : ℕ) (transaction : Transaction) (commit : Option Commit) (touched : Touched) (past : Option Past)
-    → Fair commits sessions starts → Allowed (Free commits sessions place start) start transaction commit
-    → Fair (commits ++ option_to_list commit) (slice_set sessions place (answered transaction touched past)) (starts ++ map (λ commit. start) (option_to_list commit))
-moved commits sessions starts place start transaction None touched past fair allowed =
+moved : (commits : List Commit) (sessions : List Session) (starts : List ℕ) (place start : ℕ)
+    → (transaction : Transaction) (commit : Option Commit) (touched : Touched) (past : Option Past)
+    → Fair commits sessions starts → start ≤ length commits → Allowed (Free commits sessions place start) start transaction commit
+    → Fair (commits ++ option_to_list commit) (slice_set sessions place (answered transaction touched past))
+    (starts ++ map (λ commit. start) (option_to_list commit))
+moved commits sessions starts place start transaction None touched past fair within allowed =
     let new = answered transaction touched past in
     subst (λ list. Fair list (slice_set sessions place new) (starts ++ [])) (sym (append-nil commits))
     (subst (Fair commits (slice_set sessions place new)) (sym (append-nil starts))
-    (replaced commits sessions starts place new fair (kept_rows commits sessions place start transaction touched past allowed)))
-moved commits sessions starts place start state.Outside (Some commit) touched past fair allowed =
-    committed commits sessions starts place start (answered state.Outside touched past) commit fair (λ table row has. false≢true has) allowed
-moved commits sessions starts place start state.Aborted (Some commit) touched past fair allowed = absurd allowed
-moved commits sessions starts place start (state.Open active) (Some commit) touched past fair allowed = absurd allowed
+    (replaced commits sessions starts place new fair (kept_start commits sessions place start transaction touched past within allowed)
+    (kept_rows commits sessions place start transaction touched past allowed)))
+moved commits sessions starts place start state.Outside (Some commit) touched past fair within allowed =
+    committed commits sessions starts place start (answered state.Outside touched past) commit fair (omega arith) within
+    (λ table row has. false≢true has) allowed
+moved commits sessions starts place start state.Aborted (Some commit) touched past fair within allowed = absurd allowed
+moved commits sessions starts place start (state.Open active) (Some commit) touched past fair within allowed = absurd allowed
 
 abbrev session_of : Transaction → Option Asked → Touched → Option Past → Session
 session_of transaction asked touched past = record { transaction = transaction; asked = asked; touched = touched; past = past }
@@ -69,23 +79,29 @@ left_nothing : (reply : Reply) (touched : Touched) (past : Option Past) → Keep
 left_nothing told.Ended touched past table row has = false≢true has
 left_nothing other touched past table row has = false≢true has
 
+left_start : (reply : Reply) (touched : Touched) (past : Option Past) (n : ℕ) → start_in (answered (leaves reply) touched past) ≤ n
+left_start told.Ended touched past n = omega arith
+left_start other touched past n = omega arith
+
 reply_fair : (opened : List Table) (before : List Entry) (machine : Machine) (starts : List ℕ) (number : ℕ) (reply : Reply)
     → (transaction : Transaction) (asked : Option Asked) (touched : Touched) (past : Option Past)
     → IsFair machine starts → 0 < number → slice_get machine.sessions (number - 1) ≡ Some (session_of transaction asked touched past)
     → may_reply opened number before machine reply (session_of transaction asked touched past) ≡ true
-    → IsFair (replied opened machine number (session_of transaction asked touched past) reply) (starts ++ reply_starts opened machine reply (session_of transaction asked touched past))
+    → IsFair (replied opened machine number (session_of transaction asked touched past) reply)
+    (starts ++ reply_starts opened machine reply (session_of transaction asked touched past))
 reply_fair opened before machine starts number reply transaction None touched past fair above at may = absurd (false≢true may)
 reply_fair opened before machine starts number reply state.Outside (Some asked) touched past fair above at may =
-    emptied machine.commits machine.sessions starts (number - 1) (answered state.Outside untouched None) fair (λ table row has. false≢true has)
+    emptied machine.commits machine.sessions starts (number - 1) (answered state.Outside untouched None) fair (omega arith) (λ table row has. false≢true has)
 reply_fair opened before machine starts number reply state.Aborted (Some asked) touched past fair above at may =
-    emptied machine.commits machine.sessions starts (number - 1) (answered (leaves reply) untouched None) fair (left_nothing reply untouched None)
+    emptied machine.commits machine.sessions starts (number - 1) (answered (leaves reply) untouched None) fair
+    (left_start reply untouched None (length machine.commits)) (left_nothing reply untouched None)
 reply_fair opened before machine starts number reply (state.Open active) (Some asked) touched past fair above at may =
     let move = moves opened machine.commits active (Some asked) reply in
     let rolls = asks_for is_rollback (Some asked) in
     let session = session_of (state.Open active) (Some asked) touched past in
     moved machine.commits machine.sessions starts (number - 1) active.start move.transaction move.commit
     (touched_by opened machine.commits (state.Open active) (Some asked))
-    (past_of active.number move.transaction move.commit move.net (length machine.commits)) fair
+    (past_of active.number move.transaction move.commit move.net (length machine.commits)) fair (fair.seen (number - 1) session at)
     (answer_allows opened number before machine active asked reply rolls above refl
     (λ none table row has. fair.free (number - 1) session table row at (and_from _ _ has (not_from_false _ none))) may)
 
@@ -103,28 +119,33 @@ call_fair : (machine : Machine) (starts : List ℕ) (number : ℕ) (asked : Aske
 call_fair machine starts number asked before fair at may =
     let new = session_of before.transaction (Some asked) before.touched None in
     subst (Fair machine.commits (slice_set machine.sessions (number - 1) new)) (sym (append-nil starts))
-    (replaced machine.commits machine.sessions starts (number - 1) new fair
+    (replaced machine.commits machine.sessions starts (number - 1) new fair (fair.seen (number - 1) before at)
     (λ table row has. fair.free (number - 1) before table row at
     (called_keeps table row before.transaction before.asked asked before.touched before.past (and_parts _ _ may).0 has)))
 
+starts_now : (machine : Machine) (number start : ℕ) (before : Session) → may_begin machine number start before ≡ true → start ≡ length machine.commits
+starts_now machine number start before may = eqb-true _ _ (and_parts _ _ (and_parts _ _ may).1).1
+
 begun_fair : (machine : Machine) (starts : List ℕ) (session number start : ℕ) (before : Session) → IsFair machine starts
-    → IsFair (begins machine session number start before) (starts ++ [])
-begun_fair machine starts session number start before fair =
+    → may_begin machine number start before ≡ true → IsFair (begins machine session number start before) (starts ++ [])
+begun_fair machine starts session number start before fair may =
+    let now = starts_now machine number start before may in
     emptied machine.commits machine.sessions starts (session - 1)
     (record before { transaction = state.Open (record { number = number; start = start; net = []; fresh = true }) }) fair
-    (λ table row has. false≢true has)
+    (omega arith) (λ table row has. false≢true has)
 
 call_step : (machine : Machine) (starts : List ℕ) (number : ℕ) (asked : Asked) (found : Option Session) → IsFair machine starts
     → session_at machine.sessions number ≡ found → if_there (may_call asked) found ≡ true
     → IsFair (elim found as (λ x. Machine) [ None ↦ machine | Some before ↦ called machine number asked before ]) (starts ++ [])
 call_step machine starts number asked None fair is may = absurd (false≢true may)
-call_step machine starts number asked (Some before) fair is may = call_fair machine starts number asked before fair (found_at machine.sessions number before is).0 may
+call_step machine starts number asked (Some before) fair is may =
+    call_fair machine starts number asked before fair (found_at machine.sessions number before is).0 may
 
 begun_step : (machine : Machine) (starts : List ℕ) (session number start : ℕ) (found : Option Session) → IsFair machine starts
     → if_there (may_begin machine number start) found ≡ true
     → IsFair (elim found as (λ x. Machine) [ None ↦ machine | Some before ↦ begins machine session number start before ]) (starts ++ [])
 begun_step machine starts session number start None fair may = absurd (false≢true may)
-begun_step machine starts session number start (Some before) fair may = begun_fair machine starts session number start before fair
+begun_step machine starts session number start (Some before) fair may = begun_fair machine starts session number start before fair may
 
 reply_step : (opened : List Table) (before : List Entry) (machine : Machine) (starts : List ℕ) (number : ℕ) (reply : Reply) (found : Option Session)
     → IsFair machine starts
@@ -160,6 +181,8 @@ steps_fair opened before machine starts (entry ∷ entries) fair steps =
 first_fair : IsFair first_state []
 first_fair = record {
   even = refl;
+  seen = λ place session at. let same = same_copies SESSIONS place idle session at in subst (λ now. start_in now ≤ 0) same (omega arith);
+  earlier = λ k start at. cc;
   free = λ place session table row at has.
       absurd (false≢true (subst (λ now. keeps table row now ≡ true) (sym (same_copies SESSIONS place idle session at)) has));
   wins = λ earlier later start first second table row at_first at_second at_start before unseen one other. cc;
@@ -172,6 +195,14 @@ fair opened entries steps = steps_fair opened [] first_state [] entries first_fa
 pub commits_have_starts : CommitsHaveStarts
 commits_have_starts opened entries steps = (fair opened entries steps).even
 
+pub sees_earlier_commits : SeesEarlierCommits
+sees_earlier_commits opened entries number start commit steps is =
+    let above = is.counted in
+    let below = (fair opened entries steps).earlier (number - 1) start is.begun in
+    omega arith
+
 pub first_committer_wins : FirstCommitterWins
-first_committer_wins opened entries earlier later seen start first second table row steps one other unseen before =
-    (fair opened entries steps).wins (earlier - 1) (later - 1) start first second table row one.made other.made other.begun (omega arith) (omega arith)
+first_committer_wins opened entries earlier later earlier_start later_start first second table row steps one other unseen before =
+    let counted = one.counted in
+    (fair opened entries steps).wins (earlier - 1) (later - 1) later_start first second table row one.made other.made other.begun
+    (omega arith) (omega arith)

@@ -79,16 +79,23 @@ CommitsHaveStarts = (opened : List Table) (entries : List Entry)
     → are_steps opened [] first_state entries ≡ true
     → length (starts_of opened first_state entries) ≡ length (state_after opened first_state entries).commits
 
--- after these entries that is the commit of the number, and the start of its transaction
+-- after these entries that is the commit of the number, and its transaction has the start
 pub record IsCommit (opened : List Table) (entries : List Entry) (number start : ℕ) (commit : Commit) : Type 0 where
+  pub counted : 1 ≤ number
   pub made : slice_get (state_after opened first_state entries).commits (number - 1) ≡ Some commit
   pub begun : slice_get (starts_of opened first_state entries) (number - 1) ≡ Some start
 
--- a transaction that does not see a commit before its own changes no row of it: of two that overlap and change one row,
--- the later one never commits
+-- a transaction sees none of the commits from its own on
+abbrev pub SeesEarlierCommits : Type 0
+SeesEarlierCommits = (opened : List Table) (entries : List Entry) (number start : ℕ) (commit : Commit)
+    → are_steps opened [] first_state entries ≡ true → IsCommit opened entries number start commit → start < number
+
+-- of two transactions that overlap and change one row, as the later one to commit does not see the other's commit, never
+-- both commit
 abbrev pub FirstCommitterWins : Type 0
-FirstCommitterWins = (opened : List Table) (entries : List Entry) (earlier later seen start : ℕ) (first second : Commit) (table row : ℕ)
+FirstCommitterWins = (opened : List Table) (entries : List Entry) (earlier later earlier_start later_start : ℕ)
+    → (first second : Commit) (table row : ℕ)
     → are_steps opened [] first_state entries ≡ true
-    → IsCommit opened entries earlier seen first → IsCommit opened entries later start second
-    → start < earlier → earlier < later
+    → IsCommit opened entries earlier earlier_start first → IsCommit opened entries later later_start second
+    → later_start < earlier → earlier < later
     → commit_has table row first ≡ true → commit_has table row second ≡ true → ⊥

@@ -1,5 +1,5 @@
 //! Laws of the machine. None of these functions does anything: what is proved is its contract.
-ghost use Rattle.dk_si.specs.Laws.{CommitsStay, FrontsAreSteps, SeesItsSnapshot, SameRowsAreEqual, CountsItsRows, CommitsHaveStarts, FirstCommitterWins};
+ghost use Rattle.dk_si.specs.Laws.{CommitsStay, FrontsAreSteps, SeesItsSnapshot, SameRowsAreEqual, CountsItsRows, CommitsHaveStarts, SeesEarlierCommits, FirstCommitterWins};
 
 /// The state after the first n commits does not depend on what comes after the n-th.
 #[tactic(auto, using(crate::proofs::Growth::commits_stay))]
@@ -35,6 +35,11 @@ pub fn counts_its_rows()
 #[tactic(auto, using(crate::proofs::Wins::commits_have_starts))]
 pub fn commits_have_starts()
     ensures { CommitsHaveStarts }
+{}
+
+/// A transaction sees none of the commits from its own on.
+pub fn sees_earlier_commits()
+    ensures { SeesEarlierCommits }
 {}
 
 /// First committer wins: of two transactions that overlap and change one row, never both commit.

@@ -5,7 +5,9 @@
 //! the whole list. The definitions in `specs` are what the product is measured by: the database and its commits
 //! (`Database`), a transaction's changes (`Nets`) and the length of their log record (`Weight`), what a statement means
 //! (`Meaning`), the machine's state (`Machine`), rows held against a transaction (`Held`), the step (`Steps`) and legal
-//! histories (`Legal`). Only `Meaning` looks into a statement. It stands on `dk_types`.
+//! histories (`Legal`). Only `Meaning` looks into a statement. What holds of each list of steps stands in `laws`: the commits
+//! that a transaction sees stay as they are, and of two overlapping transactions that change one row never both commit. It
+//! stands on `dk_types`.
 #![tactic(auto)]
 
 mod answers;
