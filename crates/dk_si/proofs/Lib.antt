@@ -5,5 +5,10 @@ pub mod Lists
 pub mod Meant
 pub mod Later
 pub mod Text
+pub mod Rows
+pub mod Places
+pub mod Free
+pub mod Moves
+pub mod Wins
 pub mod Holders
 pub mod Alone

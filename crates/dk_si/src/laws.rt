@@ -1,5 +1,5 @@
 //! Laws of the machine. None of these functions does anything: what is proved is its contract.
-ghost use Rattle.dk_si.specs.Laws.{CommitsStay, FrontsAreSteps, SeesItsSnapshot, SameRowsAreEqual, CountsItsRows};
+ghost use Rattle.dk_si.specs.Laws.{CommitsStay, FrontsAreSteps, SeesItsSnapshot, SameRowsAreEqual, CountsItsRows, CommitsHaveStarts, FirstCommitterWins};
 
 /// The state after the first n commits does not depend on what comes after the n-th.
 #[tactic(auto, using(crate::proofs::Growth::commits_stay))]
@@ -29,4 +29,15 @@ pub fn same_rows_are_equal()
 #[tactic(auto, using(crate::proofs::Meant::counts_its_rows))]
 pub fn counts_its_rows()
     ensures { CountsItsRows }
+{}
+
+/// Each commit is that of a transaction with a start.
+#[tactic(auto, using(crate::proofs::Wins::commits_have_starts))]
+pub fn commits_have_starts()
+    ensures { CommitsHaveStarts }
+{}
+
+/// First committer wins: of two transactions that overlap and change one row, never both commit.
+pub fn first_committer_wins()
+    ensures { FirstCommitterWins }
 {}

@@ -1,0 +1,6 @@
+-- The law is a lemma.
+use Rattle.dk_si.proofs.Wins as wins
+use Rattle.dk_si.proofs.laws.first_committer_wins.Goals as goal
+
+pub returns : goal.returns
+returns c = wins.first_committer_wins
