@@ -11,4 +11,6 @@ pub mod Free
 pub mod Moves
 pub mod Wins
 pub mod Holders
+pub mod Apart
+pub mod Fresh
 pub mod Alone
