@@ -30,14 +30,18 @@ use Rattle.dk_si.specs.Database.{after}
 use Rattle.dk_si.specs.Nets.{new_rows}
 use Rattle.dk_si.specs.Weight.{cap, weight}
 use Rattle.dk_si.specs.Meaning.{meaning, is_text_refusal, is_same_refusal}
-use Rattle.dk_si.specs.Machine.{kind_of, asks_for, meaning_in, touched_in, net_after}
+use Rattle.dk_si.specs.Machine.{first_state, kind_of, asks_for, meaning_in, touched_in, net_after}
 use Rattle.dk_si.specs.Held.{blocked, touches}
 use Rattle.dk_si.specs.Steps.{is_refused, is_no_memory, is_no_transaction, is_in_transaction, is_aborted, is_ended, is_begun, is_next, is_fault, is_stopped, is_exhausted, begins_one, committed_rows, has_no_iteration, checkpoint_answers, outside_answers, aborted_answers, commit_answers, is_meant_refusal, are_meant_rows, select_answers, is_creation, is_refused_from, create_answers, has_full_group, is_too_large, is_empty_net, none_blocked, is_change_of, is_any_change, is_receipt_for, change_refused, change_told, open_answers, statement_answers, answers, may_reply, if_there}
 use Rattle.dk_si.specs.OneThread.{is_conflict_alone, is_spent_alone, are_spent_numbers, may_reply_alone, none_in_flight}
 use Rattle.dk_si.specs.Answer.{next_receipt, holder, least_where, answer_spent, answer_checkpoint, answer_outside, answer_aborted, answer_commit, answer_create, answer_select, answer_rows, answer_net, answer_change, answer_open, answer_statement, answer, timeless_receipt, timeless}
-use Rattle.dk_si.specs.AnswerLaws.{is_told_fault, is_plain, follows, sees_all, HasOneHolder, RepliesAreAnswers}
+use Rattle.dk_si.specs.Laws.{state_after}
+use Rattle.dk_si.specs.AnswerLaws.{is_told_fault, is_plain, follows, RepliesAreAnswers, RepliesAreOne}
 use Rattle.dk_si.proofs.Meant.{same_rows_are_equal}
-use Rattle.dk_si.proofs.Holders.{not_both, least_is, least_none, holder_is}
+use Rattle.dk_si.proofs.Holders.{sees_all, HasOneHolder, not_both, least_is, least_none, holder_is}
+use Rattle.dk_si.proofs.Wins.{fair}
+use Rattle.dk_si.proofs.Apart.{has_one_holder}
+use Rattle.dk_si.proofs.Fresh.{all_are_seen}
 
 -- a reply that no fault made
 abbrev Plain : Reply → Type 0
@@ -428,10 +432,18 @@ to_call opened iteration before machine number transaction (Good statement) repl
     in_state opened iteration before machine number transaction statement reply e plain next may sees alone one
 
 pub replies_are_answers : RepliesAreAnswers
-replies_are_answers opened iteration before machine number session asked reply there calls step alone plain next sees one =
-    let may = subst (λ found. if_there (may_reply opened number before machine reply) found ≡ true) there step in
-    let told = subst (λ call. elim call as (λ x. Bool) [ None ↦ false | Some asked ↦ answers opened number before machine session.transaction asked reply ] ≡ true) calls may in
-    let h = and_parts (none_in_flight machine number) _ alone in
-    let here = subst (λ found. elim found as (λ x. Bool) [ None ↦ false | Some session ↦ may_reply_alone opened machine number session.transaction session.asked reply ] ≡ true) there h.1 in
-    let so = subst (λ call. may_reply_alone opened machine number session.transaction call reply ≡ true) calls here in
-    to_call opened iteration before machine number session.transaction asked reply told plain next so sees h.0 one
+replies_are_answers opened iteration entries number session asked reply waits ends =
+    let machine = state_after opened first_state entries in
+    let may = subst (λ found. if_there (may_reply opened number entries machine reply) found ≡ true) waits.is ends.step in
+    let told = subst (λ call. elim call as (λ x. Bool) [ None ↦ false | Some asked ↦ answers opened number entries machine session.transaction asked reply ] ≡ true) waits.call may in
+    let h = and_parts (none_in_flight machine number) _ ends.alone in
+    let here = subst (λ found. elim found as (λ x. Bool) [ None ↦ false | Some session ↦ may_reply_alone opened machine number session.transaction session.asked reply ] ≡ true) waits.is h.1 in
+    let so = subst (λ call. may_reply_alone opened machine number session.transaction call reply ≡ true) waits.call here in
+    to_call opened iteration entries machine number session.transaction asked reply told ends.plain ends.next so
+    (all_are_seen opened entries number session waits.steps waits.alone waits.is) h.0
+    (has_one_holder machine _ number (fair opened entries waits.steps) h.0)
+
+pub replies_are_one : RepliesAreOne
+replies_are_one opened iteration entries number session asked reply other waits ends also =
+    replies_are_answers opened iteration entries number session asked reply waits ends
+    ∙ sym (replies_are_answers opened iteration entries number session asked other waits also)

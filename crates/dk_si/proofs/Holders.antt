@@ -1,6 +1,6 @@
 -- Who holds a row, where no other call is in flight, is found by one search.
-use Rattle.std.proofs.Common.{◌≡◌, ◌⊎◌, inl, inr, ℕ, zero, suc, ◌-◌, ◌≤◌, Bool, true, false, List, [], ◌∷◌, take, drop, Option, Some, None, ap, ◌∙◌, sym, refl, subst, arith}
-use Rattle.std.specs.Prelude.{◌&&◌, not, is_none, min, ◌==◌, nat_lt, if◌then◌else◌}
+use Rattle.std.proofs.Common.{◌≡◌, ◌⊎◌, inl, inr, ℕ, zero, suc, ◌-◌, ◌≤◌, Bool, true, false, List, [], ◌∷◌, take, drop, length, Option, Some, None, ap, ◌∙◌, sym, refl, subst, arith}
+use Rattle.std.specs.Prelude.{◌&&◌, ◌||◌, not, is_none, min, ◌==◌, nat_lt, if◌then◌else◌}
 use Rattle.std.specs.List.{list_all, list_any}
 use Rattle.std.proofs.lemmas.Bool.{true≢false, false≢true, and_parts, or_parts, or_cases, or_left, or_right, cases_Bool, not-true, eqb-true, eq-eqb, ltb-true, ltb-false}
 use Rattle.std.proofs.lemmas.List.Folds.{list_any-append}
@@ -17,7 +17,17 @@ use Rattle.dk_si.specs.Machine.{asks_for}
 use Rattle.dk_si.specs.Held.{commit_has, some_commit_has, keeps, other_keeps, is_rollback}
 use Rattle.dk_si.specs.OneThread.{others, open_with, open_has, held_alone, none_in_flight}
 use Rattle.dk_si.specs.Answer.{first_with, last_change, holder, least_where}
-use Rattle.dk_si.specs.AnswerLaws.{HasOneHolder}
+
+-- a transaction that began in the call in flight sees all commits
+abbrev pub sees_all : List Commit → Transaction → Bool
+sees_all commits state.Outside = true
+sees_all commits state.Aborted = true
+sees_all commits (state.Open active) = not active.fresh || active.start == length commits
+
+-- a row stands in the nets of no two open transactions of other sessions
+abbrev pub HasOneHolder : Machine → ℕ → Type 0
+HasOneHolder machine number = (table row a b : ℕ) → list_any (open_has a table row) (others machine.sessions number) ≡ true
+    → list_any (open_has b table row) (others machine.sessions number) ≡ true → a ≡ b
 
 pub not_both : {b : Bool} → b ≡ true → b ≡ false → ⊥
 not_both on off = true≢false (sym on ∙ off)

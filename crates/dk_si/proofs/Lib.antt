@@ -1,6 +1,8 @@
 pub mod Alone
+pub mod Apart
 pub mod Caps
 pub mod Free
+pub mod Fresh
 pub mod Growth
 pub mod Holders
 pub mod Joins

@@ -24,7 +24,7 @@ use Rattle.dk_si.proofs.Places.{found_at, same_copies}
 use Rattle.dk_si.proofs.Free.{Free, Fair, start_in, replaced, committed}
 use Rattle.dk_si.proofs.Moves.{Allowed, answer_allows}
 
-abbrev IsFair : Machine → List ℕ → Type 0
+abbrev pub IsFair : Machine → List ℕ → Type 0
 IsFair machine starts = Fair machine.commits machine.sessions starts
 
 -- a session keeps nothing
@@ -188,7 +188,7 @@ first_fair = record {
   wins = λ earlier later start first second table row at_first at_second at_start before unseen one other. cc;
 }
 
-fair : (opened : List Table) (entries : List Entry) → are_steps opened [] first_state entries ≡ true
+pub fair : (opened : List Table) (entries : List Entry) → are_steps opened [] first_state entries ≡ true
     → IsFair (state_after opened first_state entries) (starts_of opened first_state entries)
 fair opened entries steps = steps_fair opened [] first_state [] entries first_fair steps
 

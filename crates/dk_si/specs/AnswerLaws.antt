@@ -1,7 +1,5 @@
 -- In a history of one thread a reply is a function of the calls.
-use Rattle.std.specs.Prelude.{◌≡◌, ℕ, ◌+◌, Bool, true, ◌||◌, not, List, length, Some, ◌==◌}
-use Rattle.std.specs.List.{list_any}
-use Rattle.dk_types.specs.declared.net.Commit.{Commit}
+use Rattle.std.specs.Prelude.{◌≡◌, ℕ, ◌+◌, Bool, true, ◌||◌, not, List, [], Some, ◌==◌}
 use Rattle.dk_types.specs.declared.reply.Reply.{Reply}
 use Rattle.dk_types.specs.declared.reply.Reply.TheVariants as told
 use Rattle.dk_types.specs.declared.reply.Refusal.{Refusal}
@@ -11,14 +9,12 @@ use Rattle.dk_si.specs.declared.history.Asked.{Asked}
 use Rattle.dk_si.specs.declared.history.Asked.TheVariants.{Unread, Bad, Good}
 use Rattle.dk_si.specs.declared.history.Entry.{Entry}
 use Rattle.dk_si.specs.declared.history.Entry.TheVariants as history
-use Rattle.dk_si.specs.declared.machine.Transaction.{Transaction}
-use Rattle.dk_si.specs.declared.machine.Transaction.TheVariants as state
 use Rattle.dk_si.specs.declared.machine.Session.{Session}
-use Rattle.dk_si.specs.declared.machine.Machine.{Machine}
 use Rattle.dk_si.specs.declared.refusals.TheConstants.{MAX_ITERATION}
-use Rattle.dk_si.specs.Machine.{session_at}
-use Rattle.dk_si.specs.Steps.{is_step, is_refused, is_fault, has_no_iteration}
-use Rattle.dk_si.specs.OneThread.{others, open_has, is_step_alone}
+use Rattle.dk_si.specs.Machine.{first_state, session_at}
+use Rattle.dk_si.specs.Steps.{is_step, are_steps, is_refused, is_fault, has_no_iteration}
+use Rattle.dk_si.specs.Laws.{state_after}
+use Rattle.dk_si.specs.OneThread.{is_step_alone, are_steps_alone}
 use Rattle.dk_si.specs.Answer.{answer, timeless}
 
 abbrev pub is_told_fault : Refusal → Bool
@@ -37,21 +33,28 @@ follows iteration (told.Checkpointed n) = n == iteration + 1
 follows iteration (told.Refused refusal) = not (has_no_iteration refusal) || iteration == MAX_ITERATION
 follows iteration other = true
 
--- a transaction that began in the call in flight sees all commits
-abbrev pub sees_all : List Commit → Transaction → Bool
-sees_all commits state.Outside = true
-sees_all commits state.Aborted = true
-sees_all commits (state.Open active) = not active.fresh || active.start == length commits
+-- the state behind a history of one thread, in which a session's call is in flight
+pub record Waits (opened : List Table) (entries : List Entry) (number : ℕ) (session : Session) (asked : Asked) : Type 0 where
+  pub steps : are_steps opened [] first_state entries ≡ true
+  pub alone : are_steps_alone opened first_state entries ≡ true
+  pub is : session_at (state_after opened first_state entries).sessions number ≡ Some session
+  pub call : session.asked ≡ Some asked
 
--- a row stands in the nets of no two open transactions of other sessions
-abbrev pub HasOneHolder : Machine → ℕ → Type 0
-HasOneHolder machine number = (table row a b : ℕ) → list_any (open_has a table row) (others machine.sessions number) ≡ true
-    → list_any (open_has b table row) (others machine.sessions number) ≡ true → a ≡ b
+-- a reply that may come there, where the greatest iteration so far is this one
+pub record Ends (opened : List Table) (iteration : ℕ) (entries : List Entry) (number : ℕ) (asked : Asked) (reply : Reply) : Type 0 where
+  pub step : is_step opened entries (state_after opened first_state entries) (history.Reply number reply) ≡ true
+  pub alone : is_step_alone opened (state_after opened first_state entries) (history.Reply number reply) ≡ true
+  pub plain : is_plain asked reply ≡ true
+  pub next : follows iteration reply ≡ true
 
 -- the reply to a call is the answer to it
 abbrev pub RepliesAreAnswers : Type 0
-RepliesAreAnswers = (opened : List Table) (iteration : ℕ) (before : List Entry) (machine : Machine) (number : ℕ) (session : Session)
-    (asked : Asked) (reply : Reply) → session_at machine.sessions number ≡ Some session → session.asked ≡ Some asked
-    → is_step opened before machine (history.Reply number reply) ≡ true → is_step_alone opened machine (history.Reply number reply) ≡ true
-    → is_plain asked reply ≡ true → follows iteration reply ≡ true → sees_all machine.commits session.transaction ≡ true
-    → HasOneHolder machine number → timeless reply ≡ answer opened iteration machine number session.transaction asked
+RepliesAreAnswers = (opened : List Table) (iteration : ℕ) (entries : List Entry) (number : ℕ) (session : Session) (asked : Asked) (reply : Reply)
+    → Waits opened entries number session asked → Ends opened iteration entries number asked reply
+    → timeless reply ≡ answer opened iteration (state_after opened first_state entries) number session.transaction asked
+
+-- two replies to one call are the same
+abbrev pub RepliesAreOne : Type 0
+RepliesAreOne = (opened : List Table) (iteration : ℕ) (entries : List Entry) (number : ℕ) (session : Session) (asked : Asked) (reply other : Reply)
+    → Waits opened entries number session asked → Ends opened iteration entries number asked reply → Ends opened iteration entries number asked other
+    → timeless reply ≡ timeless other
