@@ -20,10 +20,10 @@ pub record Free (commits : List Commit) (sessions : List Session) (place start t
 pub record Fair (commits : List Commit) (sessions : List Session) (starts : List ℕ) : Type 0 where
   pub even : length starts ≡ length commits
   pub free : (place : ℕ) (session : Session) (table row : ℕ) → slice_get sessions place ≡ Some session → keeps table row session ≡ true
-      → Free commits sessions place (start_in session) table row
+    → Free commits sessions place (start_in session) table row
   pub wins : (earlier later start : ℕ) (first second : Commit) (table row : ℕ)
-      → slice_get commits earlier ≡ Some first → slice_get commits later ≡ Some second → slice_get starts later ≡ Some start
-      → earlier < later → start ≤ earlier → commit_has table row first ≡ true → commit_has table row second ≡ true → ⊥
+    → slice_get commits earlier ≡ Some first → slice_get commits later ≡ Some second → slice_get starts later ≡ Some start
+    → earlier < later → start ≤ earlier → commit_has table row first ≡ true → commit_has table row second ≡ true → ⊥
 
 -- a row stays free for a session that takes the place of its former state
 free_here : (commits : List Commit) (sessions : List Session) (place start table row : ℕ) (new : Session)

@@ -14,3 +14,4 @@ pub mod Holders
 pub mod Apart
 pub mod Fresh
 pub mod Alone
+pub mod Present
