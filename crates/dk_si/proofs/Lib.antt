@@ -11,6 +11,7 @@ pub mod Lists
 pub mod Meant
 pub mod Moves
 pub mod Places
+pub mod Present
 pub mod Rows
 pub mod Text
 pub mod Wins

@@ -11,3 +11,4 @@ pub mod Laws
 pub mod OneThread
 pub mod Answer
 pub mod AnswerLaws
+pub mod RowLaws

@@ -24,6 +24,7 @@ pub mod meaning;
 mod nets;
 pub mod one_thread;
 mod refusals;
+pub mod row_laws;
 mod same;
 #[cfg(test)]
 mod scripts;

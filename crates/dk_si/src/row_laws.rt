@@ -1,0 +1,7 @@
+//! Laws of the rows that a statement changes. None of these functions does anything: what is proved is its contract.
+ghost use Rattle.dk_si.specs.RowLaws.{ChangedRowsAreThere};
+
+/// A statement updates and deletes rows that are there.
+pub fn changed_rows_are_there()
+    ensures { ChangedRowsAreThere }
+{}
