@@ -59,7 +59,7 @@ fn computed_in(block: &[u8]) -> u64
 }
 
 impl BlockBuf {
-    /// A block of zeros.
+    /// A block, which takes its 262,144 bytes at once.
     pub fn new(alloc: Global) -> Result<BlockBuf, OutOfMemory>
         ensures { IfOk result (λ block. length block ≡ 262144) }
     {

@@ -16,7 +16,7 @@ use crate::refusals::{
 };
 use crate::same::same_rows;
 use crate::since::{Finding, was_since_call};
-use crate::weights::{GROUP_ROWS, new_rows, weight};
+use crate::weights::{GROUP_ROWS, new_rows, weight_of};
 use dk_types::{Commit, OutOfMemory, Receipt, Refusal, Reply, Row, Statement, TableNet};
 use std::alloc::Global;
 
@@ -256,7 +256,7 @@ fn has_full_group(net: &[TableNet]) -> bool
 fn is_too_large(net: &[TableNet]) -> bool
     ensures { result ≡ is_too_large net.now }
 {
-    MAX_WEIGHT < weight(net) || MAX_NEW_ROWS < new_rows(net)
+    MAX_WEIGHT < weight_of(net) || MAX_NEW_ROWS < new_rows(net)
 }
 
 /// Whether no row that the statement changes is blocked.
@@ -309,7 +309,7 @@ fn change_refused(
     match refusal {
         Refusal::TooLarge { bytes, rows } => Ok(
             (is_any_change(meant) && !has_full_group(net))
-                && (is_too_large(net) && (weight(net) == *bytes && new_rows(net) == *rows)),
+                && (is_too_large(net) && (weight_of(net) == *bytes && new_rows(net) == *rows)),
         ),
         Refusal::Conflict { table, row, by } => {
             let (table, row, by) = (*table, *row, *by);

@@ -1,7 +1,7 @@
 use crate::{Asked, Database, Entry, Table, run_slow, weight};
 use dk_types::{
-    Bytes, ColType, Column, Holder, List, OutOfMemory, Receipt, Refusal, Reply, Rows, Schema, Set,
-    Statement, TableNet, Value,
+    Bytes, ColType, Column, Holder, List, Net, OutOfMemory, Receipt, Refusal, Reply, Rows, Schema,
+    Set, Statement, TableNet, Value,
 };
 use std::alloc::Global;
 use std::test::Fail;
@@ -546,12 +546,22 @@ fn stops_and_iterations_over_the_whole_list(rt: HostRuntime) -> Result<(), Fail>
     Ok(())
 }
 
+/// A net of one part, or none where that changes nothing.
+fn net_of(alloc: Global, part: TableNet) -> Result<Net, OutOfMemory> {
+    let mut net = Net::new(alloc);
+    if part.changes() {
+        net.push(part)?;
+    }
+    Ok(net)
+}
+
 #[test]
-fn the_weight_counts_whole_groups_once(rt: HostRuntime) -> Result<(), Fail> {
+fn a_net_weighs_its_record(rt: HostRuntime) -> Result<(), Fail> {
     let alloc = rt.alloc();
-    assert_eq!(rt; weight(&[]), 3);
-    // a tag and a count of tables; a table's number and four counts; two rows of a byte and a number
-    let part = added(alloc, &[3, 4])?;
-    assert_eq!(rt; weight(&[part]), 3 + 20 + 2 * 9);
+    // a tag and a count of tables
+    assert_eq!(rt; weight(&Net::new(alloc)), 3);
+    // a table's number and four counts, and two rows of a byte and a number
+    let net = net_of(alloc, added(alloc, &[3, 4])?)?;
+    assert_eq!(rt; weight(&net), 3 + 20 + 2 * 9);
     Ok(())
 }

@@ -3,7 +3,7 @@ ghost use Rattle.std.specs.Prelude.{◌≡◌, ℕ, ◌+◌, ◌-◌, ◌*◌, �
 ghost use Rattle.dk_si.specs.Nets.{new_rows};
 ghost use Rattle.dk_si.specs.Weight.{cap, cell_len, row_len, rows_len, updates_len, group_count, tail_rows, part_len, payload_len, weight};
 
-use dk_types::{Row, TableNet, Value};
+use dk_types::{Net, Row, TableNet, Value};
 
 /// How many rows a row group has, as in DuckDB.
 pub const GROUP_ROWS: usize = 122_880;
@@ -82,12 +82,19 @@ impl Encoded for TableNet {
     }
 }
 
+/// The weight of a net's parts.
+pub fn weight_of(parts: &[TableNet]) -> u64
+    ensures { result ≡ weight parts.now }
+{
+    total(parts).saturating_add(3)
+}
+
 /// The length in bytes of the payload of the log's record of a net, in which each whole 122,880 of a table's new rows
 /// counts as one group. The greatest number of 64 bits stands for all above.
-pub fn weight(net: &[TableNet]) -> u64
+pub fn weight(net: &Net) -> u64
     ensures { result ≡ weight net.now }
 {
-    total(net).saturating_add(3)
+    weight_of(net.as_slice())
 }
 
 /// How many new rows a net has over all tables; the greatest number of 64 bits stands for all above.
