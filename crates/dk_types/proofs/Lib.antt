@@ -1,1 +1,1 @@
-pub mod Nets
+pub mod NetLemmas

@@ -1,5 +1,3 @@
-pub mod Names
-pub mod Columns
 pub mod Codes
-pub mod Texts
 pub mod Nets
+pub mod Texts

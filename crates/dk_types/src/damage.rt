@@ -1,3 +1,4 @@
+//! What can be wrong with the files, and the texts that say so.
 use std::fmt;
 
 /// The part of the files whose bytes are not in their grammar.

@@ -2,9 +2,8 @@
 ghost use Rattle.std.specs.Prelude.{◌≡◌, ◌<◌, ◌++◌, ◌∷◌, ◌↔◌, [], true, Some, length, slice_get, IsTrue, IfOk, OnOk, OnErr};
 ghost use Rattle.dk_types.specs.Nets.{IsNet, all_below, changes};
 
-use crate::column::Schema;
-use crate::list::{List, OutOfMemory, TryCopy};
-use crate::value::{Bytes, Ids, Row, Rows};
+use dk_rows::Rows;
+use dk_values::{Bytes, Ids, List, OutOfMemory, Row, Schema, TryCopy};
 use std::alloc::Global;
 use std::marker::Model;
 
@@ -42,10 +41,12 @@ impl TryCopy for TableNet {
     }
 }
 
+pub type TableNets = List<TableNet>;
+
 /// What a transaction changes in all: a part for each table that it changes, ascending by table.
 #[derive(Debug, Drop)]
 pub struct Net {
-    parts: Vec<TableNet>,
+    parts: TableNets,
 }
 
 impl Model for Net {
@@ -56,9 +57,9 @@ impl Model for Net {
 
     ghost Value = { List TableNet };
 
-    ghost view = { λ net. net.parts.items };
+    ghost view = { λ net. net.parts };
 
-    ghost invariant = { λ net. IsNet net.parts.items };
+    ghost invariant = { λ net. IsNet net.parts };
 }
 
 impl Net {
@@ -67,7 +68,7 @@ impl Net {
         ensures { result ≡ [] }
     {
         Net {
-            parts: Vec::new(alloc),
+            parts: List::new(alloc),
         }
     }
 
@@ -76,7 +77,9 @@ impl Net {
         requires { IsNet parts.items }
         ensures { result ≡ parts.items }
     {
-        Net { parts }
+        Net {
+            parts: List::from_vec(parts),
+        }
     }
 
     pub fn as_slice(&self) -> &[TableNet]
@@ -104,7 +107,7 @@ impl Net {
         requires { i < length self.now }
         ensures { slice_get self.now i ≡ Some result.now }
     {
-        &self.parts[i]
+        self.parts.get(i)
     }
 
     /// Adds the changes of a further table, which stands behind those that are there.
@@ -114,30 +117,33 @@ impl Net {
         ensures ok { OnOk result (self.new ≡ self.old ++ part ∷ []) }
         ensures err { OnErr result (self.new ≡ self.old) }
     {
-        self.parts.push(part).map_err(|_| OutOfMemory)
+        self.parts.push(part)
     }
 }
 
 impl TryCopy for Net {
     fn copy(&self) -> Result<Net, OutOfMemory> {
-        let parts = copied(&self.parts)?;
-        Ok(Net { parts })
+        Ok(Net {
+            parts: self.parts.copy()?,
+        })
     }
 }
 
-/// A copy of the parts.
-fn copied(parts: &Vec<TableNet>) -> Result<Vec<TableNet>, OutOfMemory>
-    ensures { IfOk result (λ copied. copied.items ≡ parts.now.items) }
-{
-    let mut copied = Vec::new(*parts.allocator());
-    for part in parts {
-        copied.push(part.copy()?)?;
+impl PartialEq for Net {
+    ghost use Rattle.std.specs.Cmp.Lexicographic.{lists_per};
+    ghost use Rattle.dk_types.specs.contracts.net.TableNetPartialEq.TheImpl.Laws.{laws-law};
+
+    ghost eq = { λ x y. ⟦<TableNets as PartialEq>⟧.eq x y };
+
+    ghost laws = { lists_per laws-law };
+
+    fn eq(&self, other: &Net) -> bool {
+        self.parts == other.parts
     }
-    Ok(copied)
 }
 
 /// What a commit does: it creates an empty table behind the others, or changes rows.
-#[derive(Debug, Drop)]
+#[derive(Debug, Drop, PartialEq)]
 pub enum Commit {
     Create { name: Bytes, schema: Schema },
     Change { net: Net },

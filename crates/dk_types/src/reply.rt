@@ -1,6 +1,7 @@
+//! The answers to statements.
 use crate::damage::Damage;
-use crate::list::{OutOfMemory, TryCopy};
-use crate::value::Rows;
+use dk_rows::Rows;
+use dk_values::{OutOfMemory, TryCopy};
 
 /// A commit's number, and the disk's moment directly after the sync of its log record.
 #[derive(Clone, Copy, Debug, PartialEq, Eq)]

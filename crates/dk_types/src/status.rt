@@ -1,3 +1,4 @@
+//! How a run ends, and the exit status that says so.
 ghost use Rattle.std.specs.Prelude.{◌≡◌};
 ghost use Rattle.dk_types.specs.Codes.{code_of};
 

@@ -1,33 +1,17 @@
+//! Replies, nets and bound statements are copied whole, and damages and statuses tell their numbers.
 ghost use Rattle.std.specs.Prelude.{◌≡◌, true, length, IfOk};
 ghost use Rattle.dk_types.specs.Nets.{changes};
 
 use crate::{
-    Bytes, ColType, Column, Columns, Commit, Damage, List, Net, OutOfMemory, Part, Receipt, Reply,
-    Rows, Schema, SchemaError, Set, Statement, Status, TableNet, TryCopy, Value, is_name,
+    Bound, BoundExpr, BoundItem, BoundKey, BoundQuery, BoundSet, Boxed, Bytes, Commit, Damage,
+    FoldKind, List, Net, Op, OutOfMemory, Part, Receipt, Reply, Rows, Status, TableNet, TryCopy,
+    Value,
 };
 use std::alloc::Global;
 use std::test::Fail;
 
 fn bytes(alloc: Global, text: &[u8]) -> Result<Bytes, OutOfMemory> {
     Ok(List::from_vec(Vec::from_slice(alloc, text)?))
-}
-
-fn columns(alloc: Global, names: &[&[u8]]) -> Result<Columns, OutOfMemory> {
-    let mut columns = List::new(alloc);
-    for name in names {
-        columns.push(Column {
-            name: bytes(alloc, name)?,
-            kind: ColType::Big,
-        })?;
-    }
-    Ok(columns)
-}
-
-fn fault_of(columns: Columns) -> Option<SchemaError> {
-    match Schema::new(columns.into_vec()) {
-        Ok(_) => None,
-        Err(fault) => Some(fault),
-    }
 }
 
 fn one_row(alloc: Global) -> Result<Rows, OutOfMemory> {
@@ -38,59 +22,13 @@ fn one_row(alloc: Global) -> Result<Rows, OutOfMemory> {
     row.push(Value::Big(i64::MIN))?;
     row.push(Value::Text(bytes(alloc, b"text")?))?;
     row.push(Value::Huge(i128::MAX))?;
-    let mut rows = List::new(alloc);
+    let mut rows = Rows::new(alloc);
     rows.push(row)?;
     Ok(rows)
 }
 
 #[test]
-fn lists_grow_and_are_copied(rt: HostRuntime) -> Result<(), Fail> {
-    let alloc = rt.alloc();
-    let mut list = bytes(alloc, b"ab")?;
-    list.push(b'c')?;
-    list.append(bytes(alloc, b"de")?)?;
-    list.set(0, b'A');
-    assert_eq!(rt; list.len(), 5);
-    assert!(rt; !list.is_empty());
-    assert_eq!(rt; *list.get(2), b'c');
-    assert_eq!(rt; list.as_slice(), b"Abcde".as_slice());
-    assert_eq!(rt; list.copy()?, list);
-    let deleted: List<Option<Bytes>> = List::from_vec(vec![in alloc; None, Some(list)]?);
-    assert_eq!(rt; deleted.copy()?.len(), 2);
-    Ok(())
-}
-
-#[test]
-fn a_schema_has_one_to_sixty_four_columns_of_different_names(rt: HostRuntime) -> Result<(), Fail> {
-    let alloc = rt.alloc();
-    let long: [u8; 64] = [b'n'; 64];
-    let schema = Schema::new(columns(alloc, &[b"a", &long[..63]])?.into_vec());
-    let Ok(schema) = schema else {
-        return Err(Fail::new("two columns are a schema"));
-    };
-    assert_eq!(rt; schema.len(), 2);
-    assert_eq!(rt; schema.get(0).name.as_slice(), b"a".as_slice());
-    assert_eq!(rt; schema.as_slice().len(), 2);
-    assert_eq!(rt; schema.copy()?.len(), 2);
-    assert_eq!(rt; fault_of(List::new(alloc)), Some(SchemaError::NoColumns));
-    let name: &[u8] = b"a";
-    let many = columns(alloc, &[name; 65])?;
-    assert_eq!(rt;
-        fault_of(many),
-        Some(SchemaError::TooManyColumns { count: 65 })
-    );
-    let fault = fault_of(columns(alloc, &[b"a", &long, b"a"])?);
-    assert_eq!(rt; fault, Some(SchemaError::NameTooLong { place: 1 }));
-    let fault = fault_of(columns(alloc, &[b"a", b"b", b"", b"b"])?);
-    assert_eq!(rt; fault, Some(SchemaError::NameTooLong { place: 2 }));
-    let fault = fault_of(columns(alloc, &[b"a", b"b", b"b", b"a"])?);
-    assert_eq!(rt; fault, Some(SchemaError::SameName { place: 2 }));
-    assert!(rt; is_name(b"a") && !is_name(b"") && !is_name(&long));
-    Ok(())
-}
-
-#[test]
-fn statements_and_replies_are_copied(rt: HostRuntime) -> Result<(), Fail> {
+fn replies_are_copied(rt: HostRuntime) -> Result<(), Fail> {
     let alloc = rt.alloc();
     let receipt = Receipt {
         number: 1,
@@ -105,20 +43,6 @@ fn statements_and_replies_are_copied(rt: HostRuntime) -> Result<(), Fail> {
         receipt: Some(receipt),
     };
     assert_eq!(rt; changed.copy()?, changed);
-    let create = Statement::Create {
-        table: bytes(alloc, b"t")?,
-        columns: columns(alloc, &[b"a", b"b"])?,
-    };
-    assert_eq!(rt; create.copy()?, create);
-    let set = Set {
-        column: bytes(alloc, b"a")?,
-        value: Value::Big(9),
-    };
-    let update = Statement::Update {
-        table: bytes(alloc, b"t")?,
-        sets: List::from_vec(vec![in alloc; set]?),
-    };
-    assert_eq!(rt; update.copy()?, update);
     Ok(())
 }
 
@@ -179,6 +103,80 @@ fn nets_grow_and_are_copied(rt: HostRuntime) -> Result<(), Fail> {
     match commit.copy()? {
         Commit::Change { net } => assert_eq!(rt; net.as_slice(), two_parts(alloc)?.as_slice()),
         Commit::Create { .. } => assert!(rt; false),
+    }
+    Ok(())
+}
+
+/// `- column < 7`, or another number.
+fn below(alloc: Global, number: i64) -> Result<BoundExpr, OutOfMemory> {
+    let minus = BoundExpr::Neg(Boxed::new(alloc, BoundExpr::Col(3))?);
+    Ok(BoundExpr::Two {
+        op: Op::Lt,
+        left: Boxed::new(alloc, minus)?,
+        right: Boxed::new(alloc, BoundExpr::Lit(Value::Big(number)))?,
+    })
+}
+
+fn bound_query(alloc: Global, number: i64) -> Result<BoundQuery, OutOfMemory> {
+    let fold = BoundItem::Fold {
+        kind: FoldKind::Max,
+        of: below(alloc, 7)?,
+    };
+    let key = BoundKey {
+        column: 2,
+        descending: false,
+    };
+    Ok(BoundQuery {
+        items: List::from_vec(vec![in alloc; BoundItem::CountAll, fold]?),
+        table: 1,
+        filter: Some(below(alloc, number)?),
+        grouped: true,
+        groups: List::from_vec(vec![in alloc; 2]?),
+        keys: List::from_vec(vec![in alloc; key]?),
+        limit: None,
+    })
+}
+
+/// A statement of one of three forms, with a number of its own deep inside.
+fn bound(alloc: Global, form: u32, number: i64) -> Result<Bound, OutOfMemory> {
+    let table = 4;
+    match form {
+        0 => Ok(Bound::InsertSelect {
+            table,
+            query: bound_query(alloc, number)?,
+        }),
+        1 => Ok(Bound::Update {
+            table,
+            sets: List::from_vec(vec![in alloc; set(alloc, number)?]?),
+            filter: None,
+        }),
+        _ => Ok(Bound::Delete {
+            table,
+            filter: Some(below(alloc, number)?),
+        }),
+    }
+}
+
+fn set(alloc: Global, number: i64) -> Result<BoundSet, OutOfMemory> {
+    Ok(BoundSet {
+        column: 5,
+        value: below(alloc, number)?,
+    })
+}
+
+/// Whether a copy equals its value, and another value doesn't.
+fn is_whole<T: TryCopy + PartialEq>(value: T, other: T) -> Result<bool, OutOfMemory> {
+    Ok(value.copy()? == value && value != other)
+}
+
+fn form_is_whole(alloc: Global, form: u32) -> Result<bool, OutOfMemory> {
+    is_whole(bound(alloc, form, 70)?, bound(alloc, form, 71)?)
+}
+
+#[test]
+fn bound_statements_are_copied_and_compared_whole(rt: HostRuntime) -> Result<(), Fail> {
+    for form in 0..3_u32 {
+        assert!(rt; form_is_whole(rt.alloc(), form)?, "{form}");
     }
     Ok(())
 }

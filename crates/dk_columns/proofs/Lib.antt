@@ -1,0 +1,4 @@
+pub mod MaskLemmas
+pub mod OptionsLemmas
+pub mod StoredLemmas
+pub mod ColumnLemmas

@@ -1,0 +1,4 @@
+pub mod Flags
+pub mod Options
+pub mod Columns
+pub mod Stored

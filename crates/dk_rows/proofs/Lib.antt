@@ -1,0 +1,4 @@
+pub mod PartsLemmas
+pub mod SlotsLemmas
+pub mod ValuesLemmas
+pub mod RowLemmas

@@ -1,6 +1,0 @@
--- What is copied so far is the front of the list.
-use Rattle.std.proofs.Common.{◌≡◌, take}
-use Rattle.dk_types.proofs.list.ListTryCopy.copy.Given as goal
-
-abbrev pub invariant-loop-item : goal.invariant-loop-item
-invariant-loop-item g l = l.copied ≡ take l.item-index l.item-items
