@@ -1,4 +1,5 @@
-pub mod Left
-pub mod Texts
-pub mod Windows
-pub mod Written
+pub mod LineLemmas
+pub mod ReaderLemmas
+pub mod WindowLemmas
+pub mod WriteLemmas
+pub mod PassLemmas

@@ -1,7 +1,7 @@
-pub mod Causes
-pub mod Fronts
+pub mod LineMoves
 pub mod Lines
+pub mod LinesLeft
 pub mod Memory
-pub mod Moves
-pub mod Reader
-pub mod Reading
+pub mod ReaderState
+pub mod Sinks
+pub mod Passing

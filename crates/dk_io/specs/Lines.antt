@@ -27,21 +27,21 @@ abbrev pub is_passed : List ℕ → Bool
 is_passed [] = true
 is_passed (a ∷ line) = is_comment (a ∷ line)
 
--- what is told of a line: nothing of one that is passed over
-abbrev pub told : List ℕ → Option (List ℕ)
-told line = if is_passed line then None else Some line
+-- the content of a line: one that is passed over has none
+abbrev pub line_content : List ℕ → Option (List ℕ)
+line_content line = if is_passed line then None else Some line
 
--- what is told of the lines of a text whose first line has begun
-abbrev pub told_after : List ℕ → List ℕ → List (Option (List ℕ))
-told_after begun text = map told (lines_after begun text)
+-- the contents of the lines of a text whose first line has begun
+abbrev pub contents_after : List ℕ → List ℕ → List (Option (List ℕ))
+contents_after begun text = map line_content (lines_after begun text)
 
--- what is told of the lines of a text
-abbrev pub told_lines : List ℕ → List (Option (List ℕ))
-told_lines text = map told (lines_of text)
+-- the contents of the lines of a text
+abbrev pub line_contents : List ℕ → List (Option (List ℕ))
+line_contents text = map line_content (lines_of text)
 
 -- what has to be kept of a line that has begun: of a comment, its two dashes
-abbrev pub kept_of : List ℕ → List ℕ
-kept_of begun = if is_comment begun then take 2 begun else begun
+abbrev pub kept_part : List ℕ → List ℕ
+kept_part begun = if is_comment begun then take 2 begun else begun
 
 -- a line that has begun and is past the limit, whatever comes
 abbrev pub is_too_long : ℕ → List ℕ → Bool

@@ -1,7 +1,8 @@
 //! The source and the sink over a reader and a writer of the runtime.
 ghost use Rattle.std.specs.Prelude.{◌≡◌};
 
-use crate::streams::{Failed, Sink, Source};
+use crate::streams::{Sink, Source};
+use dk_fault::{Failed, next_count};
 use std::io::{ErrorKind, Read, Write};
 
 /// A source over a reader, as the one of standard input. A read that a signal broke off is made again. What is left is
@@ -35,7 +36,7 @@ impl<R: Read> Source for StdSource<R> {
                 Err(_) => break 'tries,
             }
         }
-        self.faults = self.faults.saturating_add(1);
+        self.faults = next_count(self.faults);
         Err(Failed)
     }
 }
@@ -72,7 +73,7 @@ impl<W: Write> Sink for StdSink<W> {
                 Err(_) => break 'tries,
             }
         }
-        self.faults = self.faults.saturating_add(1);
+        self.faults = next_count(self.faults);
         Err(Failed)
     }
 }

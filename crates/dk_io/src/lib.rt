@@ -6,7 +6,7 @@
 //! [`lines`] stand on the traits alone. The crate stands on std, `memchr` and `thiserror`.
 #![tactic(auto)]
 
-mod begun;
+mod begun_line;
 mod host;
 pub mod lines;
 mod memory;
@@ -15,10 +15,11 @@ mod pieces;
 mod streams;
 #[cfg(test)]
 mod tests;
-mod whole;
+mod writing;
 
+pub use dk_fault::Failed;
 pub use host::{StdSink, StdSource};
 pub use memory::{MemorySink, MemorySource};
 pub use pausing::{NoPause, Pause, Point};
-pub use streams::{Failed, Sink, Source};
-pub use whole::write_all;
+pub use streams::{Sink, Source};
+pub use writing::write_all;

@@ -2,14 +2,16 @@
 ghost use Rattle.std.specs.Prelude.{◌≡◌, ℕ, ◌+◌, ◌^◌, ◌<◌, ◌≤◌, ◌↔◌, false, true, Ok, [], Some, length, drop, slice_get, Contains, IfOk, OnOk, OnErr, IsErrOf, IsTrue};
 ghost use Rattle.std.specs.Io.KnownBytes.{Consumes, IsAtEnd};
 ghost use Rattle.std.specs.Str.Lines.{strip_carriage_return};
-ghost use Rattle.dk_io.specs.Causes.{Rose};
-ghost use Rattle.dk_io.specs.Lines.{is_too_long, told};
-ghost use Rattle.dk_io.specs.Reading.{lines_left, told_by, count_of, Pops, Stays, BeginsTooLong, Counts, OnTooLong};
-ghost use Rattle.dk_io.specs.Moves.{Moves, EndsLine, EndsText};
+ghost use Rattle.dk_fault.specs.Causes.{Rose};
+ghost use Rattle.dk_io.specs.Lines.{is_too_long, line_content};
+ghost use Rattle.dk_io.specs.LinesLeft.{lines_left, answer_content, line_count, Pops, Stays, BeginsTooLong, Counts, OnTooLong};
+ghost use Rattle.dk_io.specs.LineMoves.{Moves, EndsLine, EndsText};
+ghost use Rattle.dk_io.specs.Passing.{lines_given, Passes};
 
-use crate::begun::{end_line, find_end, is_passed, is_too_long, keep};
+use crate::begun_line::{end_line, find_end, is_passed, is_too_long, keep};
 use crate::pieces::Piece;
-use crate::streams::{Failed, Source};
+use crate::streams::Source;
+use dk_fault::Failed;
 use std::alloc::{AllocError as OutOfMemory, Global};
 use std::marker::Model;
 use thiserror::Error;
@@ -67,7 +69,7 @@ impl From<Failed> for LineError {
 /// Reads the lines of a source. A line ends with a line feed or with the input, and one carriage return before that end
 /// is dropped. The source is asked for another piece of at most 64 KiB only where no whole line is held. An empty line
 /// and one that begins with `--` are passed over: no limit is set on them, and they are not kept in memory. Memory is
-/// one piece, the line told last and the line that has begun.
+/// one piece, the line that was read last and the one that has begun.
 #[derive(Debug, Drop)]
 pub struct LineReader {
     piece: Piece,
@@ -75,15 +77,16 @@ pub struct LineReader {
     line: Vec<u8>,
     number: u64,
     taken: u64,
+    ended: bool,
     limit: usize,
     total: u64,
 }
 
 impl Model for LineReader {
     ghost use Rattle.std.specs.Prelude.{ℕ, List, ◌+◌, ◌^◌, ◌<◌, ◌≤◌, length, vec_len};
-    ghost use Rattle.dk_io.specs.Reader.{Reading};
+    ghost use Rattle.dk_io.specs.ReaderState.{ReaderState};
 
-    ghost Value = { Reading };
+    ghost Value = { ReaderState };
 
     ghost view = { λ r. record {
       begun = r.begun.items;
@@ -91,11 +94,12 @@ impl Model for LineReader {
       line = r.line.items;
       number = r.number;
       taken = r.taken;
+      ended = r.ended;
       limit = r.limit;
       total = r.total;
     } };
 
-    // Each line told took a byte at least, and no more than one byte past the limit was taken.
+    // Each line that was read took a byte at least, and no more than one byte past the limit was taken.
     ghost invariant = { λ r. (r.number + (vec_len r.begun + length r.piece) ≤ r.taken)
         × (r.taken ≤ r.total + 1) × (r.total + 1 < 2 ^ 64) × (0 < r.limit) };
 }
@@ -112,6 +116,7 @@ impl LineReader {
           line = [];
           number = 0;
           taken = 0;
+          ended = false;
           limit = limit;
           total = total;
         }) }
@@ -122,19 +127,20 @@ impl LineReader {
             line: Vec::new(alloc),
             number: 0,
             taken: 0,
+            ended: false,
             limit,
             total,
         })
     }
 
-    /// The line told last.
+    /// The line that was read last.
     pub fn line(&self) -> &[u8]
         ensures { result.now ≡ self.now.line }
     {
         self.line.as_slice()
     }
 
-    /// How many lines were told, those that were passed over included: the number of the line told last, counted from 1.
+    /// How many lines were read, those that were passed over included: the number of the last one, counted from 1.
     pub fn number(&self) -> u64
         ensures number { result ≡ self.now.number }
         ensures bound { result ≤ self.now.total + 1 }
@@ -143,12 +149,19 @@ impl LineReader {
         self.number
     }
 
+    /// Whether the last call found the end of the input.
+    pub fn has_ended(&self) -> bool
+        ensures { result ≡ self.now.ended }
+    {
+        self.ended
+    }
+
     /// Goes on to the next line, and says whether there is one, whether it is passed over, or whether the input ends.
     pub fn next_line<S: Source>(&mut self, source: &mut S) -> Result<Next, LineError>
         ensures line { IfOk result (λ next.
-            Pops (lines_left self.old (S.left source.old)) (told_by next self.new.line) (lines_left self.new (S.left source.new))) }
+            Pops (lines_left self.old (S.left source.old)) (answer_content next self.new.line) (lines_left self.new (S.left source.new))) }
         ensures short { result ≡ Ok Next.Line → length self.new.line ≤ self.old.limit }
-        ensures counted { IfOk result (λ next. self.new.number ≡ self.old.number + count_of next) }
+        ensures counted { IfOk result (λ next. self.new.number ≡ self.old.number + line_count next) }
 
         // After an error no line is lost, and the next call tries again.
         ensures kept { OnErr result (Stays (lines_left self.old (S.left source.old)) (lines_left self.new (S.left source.new))) }
@@ -160,12 +173,19 @@ impl LineReader {
         ensures unheld { IsErrOf result LineError.Fault → self.new.held ≡ [] }
         ensures later { S.faults source.old ≤ S.faults source.new }
 
+        // Until the input ends, only line feeds end lines, whatever follows. At its end nothing is left.
+        ensures passes { self.new.ended ≡ false
+            → Passes self.old self.new (S.left source.old) (S.left source.new) (lines_given result self.new.line) }
+        ensures going { OnErr result (self.new.ended ≡ false) }
+        ensures ended { self.new.ended ≡ true → (self.new.begun ≡ []) × (self.new.held ≡ []) × IsAtEnd (S.left source.new) }
+
         // The source is asked only where no whole line is held, and what it gives is counted.
         ensures asks { Contains self.old.held 10 → source.new ≡ source.old }
         ensures taken { Counts self.old.taken (S.left source.old) self.new.taken (S.left source.new) }
         ensures limit { self.new.limit ≡ self.old.limit }
         ensures total { self.new.total ≡ self.old.total }
     {
+        self.begin_call();
         if self.taken > self.total {
             return Err(LineError::TooMuch);
         }
@@ -175,15 +195,23 @@ impl LineReader {
         self.read_on(source)
     }
 
+    // Forgets what the last call found.
+    fn begin_call(&mut self)
+        ensures { self.new ≡ record self.old { ended = false } }
+    {
+        self.ended = false;
+    }
+
     // Reads pieces until the line that has begun ends.
     fn read_on<S: Source>(&mut self, source: &mut S) -> Result<Next, LineError>
         requires held { self.old.held ≡ [] }
         requires taken { self.old.taken ≤ self.old.total }
         requires fits { is_too_long self.old.limit self.old.begun ≡ false }
+        requires going { self.old.ended ≡ false }
         ensures line { IfOk result (λ next.
-            Pops (lines_left self.old (S.left source.old)) (told_by next self.new.line) (lines_left self.new (S.left source.new))) }
+            Pops (lines_left self.old (S.left source.old)) (answer_content next self.new.line) (lines_left self.new (S.left source.new))) }
         ensures short { result ≡ Ok Next.Line → length self.new.line ≤ self.old.limit }
-        ensures counted { IfOk result (λ next. self.new.number ≡ self.old.number + count_of next) }
+        ensures counted { IfOk result (λ next. self.new.number ≡ self.old.number + line_count next) }
         ensures kept { OnErr result (Stays (lines_left self.old (S.left source.old)) (lines_left self.new (S.left source.new))) }
         ensures uncounted { OnErr result (self.new.number ≡ self.old.number) }
         ensures long { OnTooLong result (λ line. (line ≡ self.old.number + 1)
@@ -192,6 +220,10 @@ impl LineReader {
         ensures fault { IsErrOf result LineError.Fault → Rose (S.faults source.old) (S.faults source.new) }
         ensures unheld { IsErrOf result LineError.Fault → self.new.held ≡ [] }
         ensures later { S.faults source.old ≤ S.faults source.new }
+        ensures passes { self.new.ended ≡ false
+            → Passes self.old self.new (S.left source.old) (S.left source.new) (lines_given result self.new.line) }
+        ensures going { OnErr result (self.new.ended ≡ false) }
+        ensures ended { self.new.ended ≡ true → (self.new.begun ≡ []) × (self.new.held ≡ []) × IsAtEnd (S.left source.new) }
         ensures taken { Counts self.old.taken (S.left source.old) self.new.taken (S.left source.new) }
         ensures limit { self.new.limit ≡ self.old.limit }
         ensures total { self.new.total ≡ self.old.total }
@@ -222,6 +254,7 @@ impl LineReader {
         ensures later { S.faults source.old ≤ S.faults source.new }
         ensures begun { self.new.begun ≡ self.old.begun }
         ensures number { self.new.number ≡ self.old.number }
+        ensures ended { self.new.ended ≡ self.old.ended }
         ensures limit { self.new.limit ≡ self.old.limit }
         ensures total { self.new.total ≡ self.old.total }
     {
@@ -247,6 +280,7 @@ impl LineReader {
         ensures fault { ¬ IsErrOf result LineError.Fault }
         ensures number { self.new.number ≡ self.old.number }
         ensures taken { self.new.taken ≡ self.old.taken }
+        ensures ended { self.new.ended ≡ self.old.ended }
         ensures limit { self.new.limit ≡ self.old.limit }
         ensures total { self.new.total ≡ self.old.total }
     {
@@ -269,8 +303,9 @@ impl LineReader {
         requires fits { is_too_long self.old.limit self.old.begun ≡ false }
         ensures line { EndsLine self.old self.new result }
         ensures short { result ≡ Next.Line → length self.new.line ≤ self.old.limit }
-        ensures number { self.new.number ≡ self.old.number + count_of result }
+        ensures number { self.new.number ≡ self.old.number + line_count result }
         ensures taken { self.new.taken ≡ self.old.taken }
+        ensures ended { self.new.ended ≡ self.old.ended }
         ensures limit { self.new.limit ≡ self.old.limit }
         ensures total { self.new.total ≡ self.old.total }
     {
@@ -284,11 +319,15 @@ impl LineReader {
         requires fits { is_too_long self.old.limit self.old.begun ≡ false }
         ensures line { EndsText self.old self.new result }
         ensures short { result ≡ Next.Line → length self.new.line ≤ self.old.limit }
-        ensures number { self.new.number ≡ self.old.number + count_of result }
+        ensures number { self.new.number ≡ self.old.number + line_count result }
         ensures taken { self.new.taken ≡ self.old.taken }
+        ensures ended { self.new.ended ≡ true }
+        ensures begun { self.new.begun ≡ [] }
+        ensures held { self.new.held ≡ [] }
         ensures limit { self.new.limit ≡ self.old.limit }
         ensures total { self.new.total ≡ self.old.total }
     {
+        self.ended = true;
         if self.begun.is_empty() {
             return Next::End;
         }
@@ -299,12 +338,13 @@ impl LineReader {
     fn end_begun(&mut self) -> Next
         requires room { self.old.number + length self.old.held < self.old.taken }
         requires fits { is_too_long self.old.limit self.old.begun ≡ false }
-        ensures told { told_by result self.new.line ≡ Some (told (strip_carriage_return self.old.begun)) }
+        ensures content { answer_content result self.new.line ≡ Some (line_content (strip_carriage_return self.old.begun)) }
         ensures short { result ≡ Next.Line → length self.new.line ≤ self.old.limit }
         ensures begun { self.new.begun ≡ [] }
         ensures held { self.new.held ≡ self.old.held }
-        ensures number { self.new.number ≡ self.old.number + count_of result }
+        ensures number { self.new.number ≡ self.old.number + line_count result }
         ensures taken { self.new.taken ≡ self.old.taken }
+        ensures ended { self.new.ended ≡ self.old.ended }
         ensures limit { self.new.limit ≡ self.old.limit }
         ensures total { self.new.total ≡ self.old.total }
     {

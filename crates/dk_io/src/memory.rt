@@ -1,10 +1,12 @@
-//! A source and a sink in memory, which fail at the calls that they are told.
+//! A source and a sink in memory, which fail at listed calls.
 ghost use Rattle.std.specs.Prelude.{◌≡◌, ℕ, ◌<◌, List, [], Some, length, min, IsErr, is_err, IfOk, Contains, ◌↔◌, if◌then◌else◌, take, drop, vec_len};
 ghost use Rattle.std.specs.Io.{ReadsAtMost, WritesAtMost};
 ghost use Rattle.std.specs.Io.KnownBytes.{ReadConsumes, WriteAppends};
-ghost use Rattle.dk_io.specs.Causes.{HasCause, count_more};
+ghost use Rattle.dk_fault.specs.Causes.{HasCause};
+ghost use Rattle.dk_fault.specs.Counts.{next_count};
 
-use crate::streams::{Failed, Sink, Source};
+use crate::streams::{Sink, Source};
+use dk_fault::{Failed, next_count};
 use std::marker::Model;
 
 /// A source over bytes in memory. It fails at the listed calls, counted from 0, and gives at most `piece` bytes a call.
@@ -84,15 +86,15 @@ impl Source for MemorySource {
 
         ensures listed { IsErr result ↔ Contains self.old.failing self.old.calls }
         ensures amount { IfOk result (λ n. n ≡ min (min (length self.old.left) (length buf.old)) self.old.piece) }
-        ensures calls { self.new.calls ≡ count_more self.old.calls }
-        ensures faults { self.new.faults ≡ (if is_err result then count_more self.old.faults else self.old.faults) }
+        ensures calls { self.new.calls ≡ next_count self.old.calls }
+        ensures faults { self.new.faults ≡ (if is_err result then next_count self.old.faults else self.old.faults) }
         ensures failing { self.new.failing ≡ self.old.failing }
         ensures piece { self.new.piece ≡ self.old.piece }
     {
         let call = self.calls;
-        self.calls = call.saturating_add(1);
+        self.calls = next_count(call);
         if self.failing.contains(&call) {
-            self.faults = self.faults.saturating_add(1);
+            self.faults = next_count(self.faults);
             return Err(Failed);
         }
         let count = copy_front(&self.bytes[self.at..], self.piece, buf);
@@ -143,7 +145,7 @@ impl MemorySink {
           faults = 0;
           refused = 0;
         } }
-        ensures told { ⟦<MemorySink as Sink>⟧.taken result ≡ Some [] }
+        ensures taken { ⟦<MemorySink as Sink>⟧.taken result ≡ Some [] }
         ensures faults { ⟦<MemorySink as Sink>⟧.faults result ≡ 0 }
     {
         MemorySink {
@@ -159,7 +161,7 @@ impl MemorySink {
     /// The bytes taken so far.
     pub fn bytes(&self) -> &[u8]
         ensures exact { result.now ≡ self.now.taken }
-        ensures told { ⟦<MemorySink as Sink>⟧.taken self.now ≡ Some result.now }
+        ensures taken { ⟦<MemorySink as Sink>⟧.taken self.now ≡ Some result.now }
     {
         self.bytes.as_slice()
     }
@@ -187,23 +189,23 @@ impl Sink for MemorySink {
         // A listed call fails, and is no want of memory; any other call that fails is one.
         ensures listed { Contains self.old.failing self.old.calls → IsErr result × (self.new.refused ≡ self.old.refused) }
         ensures refused { ¬ Contains self.old.failing self.old.calls →
-            self.new.refused ≡ (if is_err result then count_more self.old.refused else self.old.refused) }
+            self.new.refused ≡ (if is_err result then next_count self.old.refused else self.old.refused) }
         ensures amount { IfOk result (λ n. n ≡ min (length bytes.now) self.old.piece) }
-        ensures calls { self.new.calls ≡ count_more self.old.calls }
-        ensures faults { self.new.faults ≡ (if is_err result then count_more self.old.faults else self.old.faults) }
+        ensures calls { self.new.calls ≡ next_count self.old.calls }
+        ensures faults { self.new.faults ≡ (if is_err result then next_count self.old.faults else self.old.faults) }
         ensures failing { self.new.failing ≡ self.old.failing }
         ensures piece { self.new.piece ≡ self.old.piece }
     {
         let call = self.calls;
-        self.calls = call.saturating_add(1);
+        self.calls = next_count(call);
         if self.failing.contains(&call) {
-            self.faults = self.faults.saturating_add(1);
+            self.faults = next_count(self.faults);
             return Err(Failed);
         }
         let count = bytes.len().min(self.piece);
         if self.bytes.extend_from_slice(&bytes[..count]).is_err() {
-            self.faults = self.faults.saturating_add(1);
-            self.refused = self.refused.saturating_add(1);
+            self.faults = next_count(self.faults);
+            self.refused = next_count(self.refused);
             return Err(Failed);
         }
         Ok(count)

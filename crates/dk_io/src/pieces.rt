@@ -2,9 +2,10 @@
 ghost use Rattle.std.specs.Prelude.{◌≡◌, ◌+◌, ◌<◌, ◌≤◌, [], length, drop, IfOk, OnErr};
 ghost use Rattle.std.specs.Io.{ReadsAtMost};
 ghost use Rattle.std.specs.Io.KnownBytes.{Consumes, ReadConsumes, IsAtEnd};
-ghost use Rattle.dk_io.specs.Causes.{HasCause};
+ghost use Rattle.dk_fault.specs.Causes.{HasCause};
 
-use crate::streams::{Failed, Source};
+use crate::streams::Source;
+use dk_fault::Failed;
 use std::alloc::{AllocError as OutOfMemory, Global};
 use std::marker::Model;
 

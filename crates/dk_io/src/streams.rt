@@ -2,14 +2,9 @@
 ghost use Rattle.std.specs.Prelude.{ℕ, ◌<◌, List, Option, length, IfOk};
 ghost use Rattle.std.specs.Io.{ReadsAtMost, WritesAtMost};
 ghost use Rattle.std.specs.Io.KnownBytes.{ReadConsumes, WriteAppends};
-ghost use Rattle.dk_io.specs.Causes.{HasCause};
+ghost use Rattle.dk_fault.specs.Causes.{HasCause};
 
-use thiserror::Error;
-
-/// A call to the outside that failed. It tells no more: the object's count of faults has risen.
-#[derive(Clone, Copy, Debug, PartialEq, Eq, Error)]
-#[error("a call to the outside failed")]
-pub struct Failed;
+use dk_fault::Failed;
 
 /// Where bytes come from.
 pub trait Source {

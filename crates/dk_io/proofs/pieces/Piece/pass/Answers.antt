@@ -1,6 +1,6 @@
 use Rattle.std.proofs.Common.{◌+◌, ◌-◌, ◌≤◌, length, drop, sym, ◌∙◌, ap, arith}
 use Rattle.std.proofs.lemmas.List.{length-take}
-use Rattle.dk_io.proofs.Windows.{window_moves}
+use Rattle.dk_io.proofs.WindowLemmas.{window_moves}
 use Rattle.dk_io.proofs.pieces.Piece.pass.Goals as goal
 
 -- the rest of what is held begins further on in the buffer

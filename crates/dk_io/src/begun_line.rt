@@ -1,7 +1,7 @@
 //! The line that has begun.
 ghost use Rattle.std.specs.Prelude.{◌≡◌, ◌≢◌, ◌≤◌, ◌+◌, true, false, [], ◌++◌, length, take, slice_get, vec_len, All, Some, OnOk, OnErr};
 ghost use Rattle.std.specs.Str.Lines.{strip_carriage_return};
-ghost use Rattle.dk_io.specs.Lines.{is_comment, is_passed, is_too_long, kept_of};
+ghost use Rattle.dk_io.specs.Lines.{is_comment, is_passed, is_too_long, kept_part};
 
 use memchr::memchr;
 use std::alloc::AllocError as OutOfMemory;
@@ -52,7 +52,7 @@ pub fn is_too_long(begun: &[u8], limit: usize) -> bool
 
 /// Puts bytes behind a line that has begun. Of a comment only its dashes are kept.
 pub fn keep(begun: &mut Vec<u8>, bytes: &[u8]) -> Result<(), OutOfMemory>
-    ensures ok { OnOk result (begun.new.items ≡ kept_of (begun.old.items ++ bytes.now)) }
+    ensures ok { OnOk result (begun.new.items ≡ kept_part (begun.old.items ++ bytes.now)) }
     ensures err { OnErr result (begun.new.items ≡ begun.old.items) }
     ensures len { vec_len begun.new ≤ vec_len begun.old + length bytes.now }
 {

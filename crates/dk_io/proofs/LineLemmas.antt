@@ -5,8 +5,8 @@ use Rattle.std.specs.Str.Lines.{strip_carriage_return}
 use Rattle.std.proofs.lemmas.Bool.{eqb-true, ne_eqb, ltb-true, ltb-false, lt-ltb, cases_Bool, false≢true}
 use Rattle.std.proofs.lemmas.List.{append-nil, take-append-drop, length-take-le}
 use Rattle.std.proofs.lemmas.List.Elements.{All-get_or, All-drop}
-use Rattle.dk_io.specs.Lines.{lines_after, is_comment, told, told_after, kept_of, is_too_long}
-use Rattle.dk_io.specs.Reading.{BeginsTooLong}
+use Rattle.dk_io.specs.Lines.{lines_after, is_comment, line_content, contents_after, kept_part, is_too_long}
+use Rattle.dk_io.specs.LinesLeft.{BeginsTooLong}
 
 -- both tests pass
 both : (v w : Bool) → (v && w) ≡ true → (v ≡ true) × (w ≡ true)
@@ -35,44 +35,44 @@ comment_is (a ∷ c ∷ line) h =
     ap (λ n. n ∷ c ∷ line) (eqb-true a 45 two.0) ∙ ap (λ n. 45 ∷ n ∷ line) (eqb-true c 45 two.1)
 
 -- of two comments either is passed over
-either_comment : (v : Bool) (x y : List ℕ) → told (cond v (45 ∷ 45 ∷ x) (45 ∷ 45 ∷ y)) ≡ None
+either_comment : (v : Bool) (x y : List ℕ) → line_content (cond v (45 ∷ 45 ∷ x) (45 ∷ 45 ∷ y)) ≡ None
 either_comment true x y = refl
 either_comment false x y = refl
 
--- a comment's line is passed over
-comment_told : (line : List ℕ) → told (strip_carriage_return (45 ∷ 45 ∷ line)) ≡ None
-comment_told [] = refl
-comment_told (a ∷ line) =
+-- a comment has no content
+comment_content : (line : List ℕ) → line_content (strip_carriage_return (45 ∷ 45 ∷ line)) ≡ None
+comment_content [] = refl
+comment_content (a ∷ line) =
     let e : length (45 ∷ 45 ∷ a ∷ line) - 1 ≡ suc (suc (length line)) = omega arith in
     rw e (either_comment _ _ _)
 
--- lines that are told the same either way
-either_way : (v : Bool) (a a' c c' : List (List ℕ)) → map told a ≡ map told a' → map told c ≡ map told c' → map told (if v then a else c) ≡ map told (if v then a' else c')
+-- lines with the same contents either way
+either_way : (v : Bool) (a a' c c' : List (List ℕ)) → map line_content a ≡ map line_content a' → map line_content c ≡ map line_content c' → map line_content (if v then a else c) ≡ map line_content (if v then a' else c')
 either_way true a a' c c' p q = p
 either_way false a a' c c' p q = q
 
 -- of a comment nothing but its dashes counts
-comment_kept : (line text : List ℕ) → told_after (45 ∷ 45 ∷ line) text ≡ told_after (45 ∷ 45 ∷ []) text
-comment_kept line [] = ap (λ w. w ∷ []) (comment_told line ∙ sym (comment_told []))
+comment_kept : (line text : List ℕ) → contents_after (45 ∷ 45 ∷ line) text ≡ contents_after (45 ∷ 45 ∷ []) text
+comment_kept line [] = ap (λ w. w ∷ []) (comment_content line ∙ sym (comment_content []))
 comment_kept line (b ∷ text) =
-    either_way (b == 10) _ _ _ _ (ap (λ w. w ∷ map told (lines_after [] text)) (comment_told line ∙ sym (comment_told [])))
+    either_way (b == 10) _ _ _ _ (ap (λ w. w ∷ map line_content (lines_after [] text)) (comment_content line ∙ sym (comment_content [])))
     (comment_kept (line ++ b ∷ []) text ∙ sym (comment_kept (b ∷ []) text))
 
--- what is kept of a line that has begun tells the same
-pub kept_tells : (begun text : List ℕ) → told_after (kept_of begun) text ≡ told_after begun text
-kept_tells begun text = elim (cases_Bool (is_comment begun)) [
+-- what is kept of a line that has begun gives the same contents
+pub kept_contents : (begun text : List ℕ) → contents_after (kept_part begun) text ≡ contents_after begun text
+kept_contents begun text = elim (cases_Bool (is_comment begun)) [
   | inl dashed ↦
       let is = comment_is begun dashed in
-      rw dashed (ap (λ w. told_after (take 2 w) text) is ∙ sym (comment_kept (drop 2 begun) text) ∙ ap (λ w. told_after w text) (sym is))
+      rw dashed (ap (λ w. contents_after (take 2 w) text) is ∙ sym (comment_kept (drop 2 begun) text) ∙ ap (λ w. contents_after w text) (sym is))
   | inr plain ↦ rw plain refl
 ]
 
 -- bytes held, up to a line feed, go to the line that has begun
-pub part_tells : (begun held : List ℕ) (n : ℕ) (text : List ℕ) → All (λ b. b ≢ 10) (take n held) → told_after (kept_of (begun ++ take n held)) (drop n held ++ text) ≡ told_after begun (held ++ text)
-part_tells begun held n text none =
-    kept_tells (begun ++ take n held) (drop n held ++ text)
-    ∙ ap (map told) (sym (lines_move (take n held) begun (drop n held ++ text) none))
-    ∙ ap (λ w. told_after begun w) (sym (append_assoc (take n held) (drop n held) text) ∙ ap (λ w. w ++ text) (take-append-drop n held))
+pub part_contents : (begun held : List ℕ) (n : ℕ) (text : List ℕ) → All (λ b. b ≢ 10) (take n held) → contents_after (kept_part (begun ++ take n held)) (drop n held ++ text) ≡ contents_after begun (held ++ text)
+part_contents begun held n text none =
+    kept_contents (begun ++ take n held) (drop n held ++ text)
+    ∙ ap (map line_content) (sym (lines_move (take n held) begun (drop n held ++ text) none))
+    ∙ ap (λ w. contents_after begun w) (sym (append_assoc (take n held) (drop n held) text) ∙ ap (λ w. w ++ text) (take-append-drop n held))
 
 -- a line loses one byte at most
 either_len : (v : Bool) (line : List ℕ) → (length (cond v (take (length line - 1) line) line) ≤ length line) × (length line ≤ length (cond v (take (length line - 1) line) line) + 1)
@@ -103,17 +103,17 @@ strip_comment (a ∷ c ∷ d ∷ line) h =
     let e : length (a ∷ c ∷ d ∷ line) - 1 ≡ suc (suc (length line)) = omega arith in
     rw e (either_dashes _ a c _ _)
 
--- a line that is no comment and not empty is told
-told_self : (line : List ℕ) → 0 < length line → is_comment line ≡ false → told line ≡ Some line
-told_self [] some plain = let none : ⊥ = omega (arith, some) in absurd none
-told_self (a ∷ line) some plain = rw plain refl
+-- the content of a line that is no comment and not empty
+content_self : (line : List ℕ) → 0 < length line → is_comment line ≡ false → line_content line ≡ Some line
+content_self [] some plain = let none : ⊥ = omega (arith, some) in absurd none
+content_self (a ∷ line) some plain = rw plain refl
 
--- a line that has begun and is past the limit would be told
-told_long : (limit : ℕ) (begun : List ℕ) → 0 < limit → is_too_long limit begun ≡ true → (told (strip_carriage_return begun) ≡ Some (strip_carriage_return begun)) × (limit < length (strip_carriage_return begun))
-told_long limit begun some long =
+-- a line that has begun and is past the limit has a content
+content_long : (limit : ℕ) (begun : List ℕ) → 0 < limit → is_too_long limit begun ≡ true → (line_content (strip_carriage_return begun) ≡ Some (strip_carriage_return begun)) × (limit < length (strip_carriage_return begun))
+content_long limit begun some long =
     let parts = not_first (is_comment begun) _ long in
     let above : limit < length (strip_carriage_return begun) = ltb-true _ _ parts.1 in
-    (told_self _ (omega arith) (strip_comment begun (omega arith) ∙ parts.0), above)
+    (content_self _ (omega arith) (strip_comment begun (omega arith) ∙ parts.0), above)
 
 -- a line of at most one byte is not past the limit
 short_not_long : (limit : ℕ) (begun : List ℕ) → 0 < limit → length begun ≤ 1 → is_too_long limit begun ≡ true → ⊥
@@ -134,16 +134,16 @@ long_more limit (a ∷ c ∷ begun) b some long =
     let one = length-append (a ∷ c ∷ begun) (b ∷ []) in
     rw parts.0 (lt-ltb _ _ (omega (arith, old.0, new.1, one)))
 
-either_long : (v : Bool) (limit : ℕ) (a c : List (List ℕ)) → BeginsTooLong limit (Some (map told a)) → BeginsTooLong limit (Some (map told c)) → BeginsTooLong limit (Some (map told (if v then a else c)))
+either_long : (v : Bool) (limit : ℕ) (a c : List (List ℕ)) → BeginsTooLong limit (Some (map line_content a)) → BeginsTooLong limit (Some (map line_content c)) → BeginsTooLong limit (Some (map line_content (if v then a else c)))
 either_long true limit a c p q = p
 either_long false limit a c p q = q
 
 -- a line that has begun and is past the limit is a line past the limit
-pub long_begins : (limit : ℕ) (begun text : List ℕ) → 0 < limit → is_too_long limit begun ≡ true → BeginsTooLong limit (Some (told_after begun text))
+pub long_begins : (limit : ℕ) (begun text : List ℕ) → 0 < limit → is_too_long limit begun ≡ true → BeginsTooLong limit (Some (contents_after begun text))
 long_begins limit [] [] some long = absurd (short_not_long limit [] some (omega arith) long)
-long_begins limit (a ∷ begun) [] some long = let both = told_long limit (a ∷ begun) some long in rw both.0 both.1
+long_begins limit (a ∷ begun) [] some long = let both = content_long limit (a ∷ begun) some long in rw both.0 both.1
 long_begins limit begun (b ∷ text) some long =
-    let both = told_long limit begun some long in
+    let both = content_long limit begun some long in
     either_long (b == 10) limit _ _ (rw both.0 both.1) (long_begins limit (begun ++ b ∷ []) text some (long_more limit begun b some long))
 
 none_some : {line : List ℕ} → ◌≡◌ {A = Option (List ℕ)} None (Some line) → ⊥
@@ -152,21 +152,21 @@ none_some h = cc
 some_same : {x y : List ℕ} → ◌≡◌ {A = Option (List ℕ)} (Some x) (Some y) → x ≡ y
 some_same h = cc
 
--- a told line is itself
-told_is : (line found : List ℕ) → told line ≡ Some found → line ≡ found
-told_is [] found h = absurd (none_some h)
-told_is (a ∷ line) found h = elim (cases_Bool (is_comment (a ∷ line))) [
+-- the content of a line is itself
+content_is : (line found : List ℕ) → line_content line ≡ Some found → line ≡ found
+content_is [] found h = absurd (none_some h)
+content_is (a ∷ line) found h = elim (cases_Bool (is_comment (a ∷ line))) [
   | inl dashed ↦ absurd (none_some (rw dashed at h))
   | inr plain ↦ some_same (rw plain at h)
 ]
 
--- a line that is told and not past the limit is short
-pub told_short : (limit : ℕ) (begun line : List ℕ) → is_too_long limit begun ≡ false → told (strip_carriage_return begun) ≡ Some line → length line ≤ limit
-told_short limit begun line short is = elim (cases_Bool (is_comment begun)) [
+-- a line that has a content and is not past the limit is short
+pub content_short : (limit : ℕ) (begun line : List ℕ) → is_too_long limit begun ≡ false → line_content (strip_carriage_return begun) ≡ Some line → length line ≤ limit
+content_short limit begun line short is = elim (cases_Bool (is_comment begun)) [
   | inl dashed ↦
-      let dashes = ap (λ w. told (strip_carriage_return w)) (comment_is begun dashed) ∙ comment_told (drop 2 begun) in
+      let dashes = ap (λ w. line_content (strip_carriage_return w)) (comment_is begun dashed) ∙ comment_content (drop 2 begun) in
       absurd (none_some (sym dashes ∙ is))
   | inr plain ↦
       let within : length (strip_carriage_return begun) ≤ limit = ltb-false _ _ (rw plain at short) in
-      subst (λ w. length w ≤ limit) (told_is _ _ is) within
+      subst (λ w. length w ≤ limit) (content_is _ _ is) within
 ]

@@ -1,6 +1,6 @@
 use Rattle.std.proofs.Common.{length, ◌-◌, ◌≤◌, take}
 use Rattle.std.specs.Io.KnownBytes.{Appends}
-use Rattle.dk_io.proofs.whole.write_all.Given as goal
+use Rattle.dk_io.proofs.writing.write_all.Given as goal
 
 -- the sink has taken the bytes so far
 abbrev pub invariant-writes : goal.invariant-writes

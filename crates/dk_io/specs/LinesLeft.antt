@@ -1,28 +1,28 @@
 -- What contracts see of a line reader, and of its answers.
 use Rattle.std.specs.Prelude.{◌≡◌, ℕ, ◌+◌, ◌<◌, List, [], ◌∷◌, ◌++◌, length, Option, None, Some, Result, Ok, Err, ⊤}
 use Rattle.std.specs.Option.{option_map}
-use Rattle.dk_io.specs.Lines.{told_after}
+use Rattle.dk_io.specs.Lines.{contents_after}
 use Rattle.dk_io.specs.declared.lines.LineError.{LineError}
 use Rattle.dk_io.specs.declared.lines.LineError.TheVariants.{TooLong, TooMuch, Fault, OutOfMemory}
 use Rattle.dk_io.specs.declared.lines.Next.{Next}
 use Rattle.dk_io.specs.declared.lines.Next.TheVariants.{End, Passed, Line}
-use Rattle.dk_io.specs.Reader.{Reading}
+use Rattle.dk_io.specs.ReaderState.{ReaderState}
 
--- what is told of the lines that a reader has yet to give, over a source with these bytes left
-abbrev pub lines_left : Reading → Option (List ℕ) → Option (List (Option (List ℕ)))
-lines_left reading left = option_map (λ text. told_after reading.begun (reading.held ++ text)) left
+-- the contents of the lines that a reader has yet to give, over a source with these bytes left
+abbrev pub lines_left : ReaderState → Option (List ℕ) → Option (List (Option (List ℕ)))
+lines_left reading left = option_map (λ text. contents_after reading.begun (reading.held ++ text)) left
 
--- what an answer tells of a line, if it tells one
-abbrev pub told_by : Next → List ℕ → Option (Option (List ℕ))
-told_by End line = None
-told_by Passed line = Some None
-told_by Line line = Some (Some line)
+-- the content that an answer gives of a line, if it gives one
+abbrev pub answer_content : Next → List ℕ → Option (Option (List ℕ))
+answer_content End line = None
+answer_content Passed line = Some None
+answer_content Line line = Some (Some line)
 
--- how many lines an answer tells
-abbrev pub count_of : Next → ℕ
-count_of End = 0
-count_of Passed = 1
-count_of Line = 1
+-- how many lines an answer stands for
+abbrev pub line_count : Next → ℕ
+line_count End = 0
+line_count Passed = 1
+line_count Line = 1
 
 -- the first item of a known list, if there is one, and the items after it
 abbrev pub Pops : {T : Type 0} → Option (List T) → Option T → Option (List T) → Type 0
@@ -37,7 +37,7 @@ Stays None new = ⊤
 Stays (Some x) None = ⊥
 Stays (Some x) (Some y) = y ≡ x
 
--- the first of the known lines is told, and longer than the limit
+-- the first of the known lines has a content, and is longer than the limit
 abbrev pub BeginsTooLong : ℕ → Option (List (Option (List ℕ))) → Type 0
 BeginsTooLong limit None = ⊤
 BeginsTooLong limit (Some []) = ⊥
