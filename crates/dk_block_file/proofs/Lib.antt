@@ -1,5 +1,9 @@
-mod Blocks
-mod Calls
-mod Flips
-mod Ranges
-mod Rewrites
+pub mod BlockLemmas
+pub mod CurrentLemmas
+pub mod EmptyLemmas
+pub mod FlipLemmas
+pub mod FrontLemmas
+pub mod GateLemmas
+pub mod LogLemmas
+pub mod OtherBlockLemmas
+pub mod RangeLemmas

@@ -1,22 +1,30 @@
 -- Where the blocks of the main file lie and what they hold, and the files of an empty database.
-use Rattle.std.specs.Prelude.{◌≡◌, ℕ, ◌+◌, ◌-◌, ◌*◌, ◌/◌, ◌^◌, ◌==◌, nat_lt, Result, Ok, Err, List, [], ◌∷◌, ◌++◌, length, take, drop, replicate, if◌then◌else◌}
-use Rattle.std.specs.Int.{w64, to_le_bytes, from_le_bytes}
+use Rattle.std.specs.Prelude.{◌≡◌, ◌≢◌, ◌⊎◌, ℕ, ◌<◌, ◌≤◌, ◌+◌, ◌-◌, ◌*◌, ◌/◌, ◌==◌, nat_lt, Result, Ok, Err, List, [], ◌∷◌, ◌++◌, length, take, drop, replicate, if◌then◌else◌}
+use Rattle.std.specs.Int.{w64, from_le_bytes}
 use Rattle.dk_bytes.specs.Checksum.{checksum_of}
 use Rattle.dk_types.specs.declared.damage.Damage.{Damage}
 use Rattle.dk_types.specs.declared.damage.Damage.TheVariants.{Sum, Outside}
-use Rattle.dk_header.specs.Layout.{framed, main_bytes, body_bytes}
+use Rattle.dk_header.specs.declared.header.DbHeader.{DbHeader}
+use Rattle.dk_header.specs.declared.header.TheConstants.{NO_ROOT, VERSION}
+use Rattle.dk_header.specs.declared.log.TheConstants.{LOG_HEADER_BYTES}
+use Rattle.dk_header.specs.Layout.{with_checksum, main_bytes, body_bytes}
 use Rattle.dk_block_file.specs.declared.fault.BlockFault.{BlockFault}
 use Rattle.dk_block_file.specs.declared.fault.BlockFault.TheVariants.{DiskFault, Damaged, OutOfMemory}
+use Rattle.dk_block_file.specs.declared.layout.TheConstants.{HEADERS_BYTES, BLOCK_BYTES}
 
 -- how many whole blocks lie in a main file of this length
 abbrev pub blocks_in : ℕ → ℕ
-blocks_in len = (len - 12288) / 262144
+blocks_in len = (len - HEADERS_BYTES) / BLOCK_BYTES
 
 abbrev pub place_of : ℕ → ℕ
-place_of block = 12288 + 262144 * block
+place_of block = HEADERS_BYTES + BLOCK_BYTES * block
 
 abbrev pub block_at : ℕ → List ℕ → List ℕ
-block_at block main = take 262144 (drop (place_of block) main)
+block_at block main = take BLOCK_BYTES (drop (place_of block) main)
+
+-- a block of zeros
+abbrev pub zero_block : List ℕ
+zero_block = replicate BLOCK_BYTES 0
 
 -- the checksum in front of a block, and that of its payload
 abbrev pub stored_sum : List ℕ → ℕ
@@ -26,18 +34,35 @@ abbrev pub payload_sum : List ℕ → ℕ
 payload_sum block = checksum_of (drop 8 block)
 
 -- a block that holds a payload
-abbrev pub sealed : List ℕ → List ℕ
-sealed block = framed (drop 8 block)
+abbrev pub with_sum : List ℕ → List ℕ
+with_sum block = with_checksum (drop 8 block)
 
 -- the payload of a block, or its two checksums where they differ
-abbrev pub opened : ℕ → List ℕ → Result (List ℕ) Damage
-opened block bytes =
-    if stored_sum bytes == payload_sum bytes then Ok (drop 8 bytes) else Err (Sum block (stored_sum bytes) (payload_sum bytes))
+abbrev pub payload_in : ℕ → List ℕ → Result (List ℕ) Damage
+payload_in block bytes =
+    if stored_sum bytes == payload_sum bytes then Ok (drop 8 bytes) else Err
+    (Sum block (stored_sum bytes) (payload_sum bytes))
 
 -- the payload of a block of a main file, or what is wrong with it
 abbrev pub block_read : ℕ → List ℕ → Result (List ℕ) Damage
 block_read block main =
-    if nat_lt block (blocks_in (length main)) then opened block (block_at block main) else Err (Outside block (blocks_in (length main)))
+    if nat_lt block (blocks_in (length main)) then payload_in block (block_at block main) else Err
+    (Outside block (blocks_in (length main)))
+
+-- a block lies in each of these images, and is the same in each
+pub record HasOneBlock (block : ℕ) (images : List ℕ → Type 0) : Type 0 where
+  pub lies : (c : List ℕ) → images c → block < blocks_in (length c)
+  pub same : (c d : List ℕ) → images c → images d → block_at block c ≡ block_at block d
+
+-- no shorter, the same headers, and the same block at each other number that lies in it and in a file of this length
+pub record SameOthers (block extent : ℕ) (old new : List ℕ) : Type 0 where
+  pub no_shorter : length old ≤ length new
+  pub headers : HEADERS_BYTES ≤ length old → take HEADERS_BYTES new ≡ take HEADERS_BYTES old
+  pub others : (k : ℕ) → k < blocks_in extent → k < blocks_in (length old) → k ≢ block → block_at k new ≡ block_at k old
+
+-- a front of the log that was, or no more than a log's header
+abbrev pub FrontOrHeader : List ℕ → List ℕ → Type 0
+FrontOrHeader old new = (new ≡ take (length new) old) ⊎ (length new ≤ LOG_HEADER_BYTES)
 
 -- what a call that left this payload answered, where a block reads so
 abbrev pub ReadsAs : Result (List ℕ) Damage → List ℕ → Result (Unit {0}) BlockFault → Type 0
@@ -46,11 +71,10 @@ ReadsAs found payload (Err DiskFault) = Unit {0}
 ReadsAs found payload (Err (Damaged damage)) = found ≡ Err damage
 ReadsAs found payload (Err OutOfMemory) = ⊥
 
+-- no root, no blocks
+abbrev pub first_header : DbHeader
+first_header = record { iteration = 1; root = NO_ROOT; blocks = 0 }
+
 -- the empty database: no root, no blocks, twin 0 open, twin 1 zeros
 abbrev pub empty_main : List ℕ
-empty_main = main_bytes 1001 ++ body_bytes record { iteration = 1; root = 2 ^ 64 - 1; blocks = 0 } ++ 1 ∷ [] ++ replicate 4096 0
-
--- the magic and the iteration of a log without records, and their checksum
-abbrev pub log_bytes : ℕ → List ℕ
-log_bytes iteration =
-    to_le_bytes w64 0x313030474F4C4B44 ++ to_le_bytes w64 iteration ++ to_le_bytes w64 (checksum_of (to_le_bytes w64 0x313030474F4C4B44 ++ to_le_bytes w64 iteration))
+empty_main = main_bytes VERSION ++ body_bytes first_header ++ 1 ∷ [] ++ replicate 4096 0

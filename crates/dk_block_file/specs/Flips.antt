@@ -35,13 +35,14 @@ HasOneBody twin images = (c d : List ℕ) → images c → images d → body_at 
 -- in each of these images the other twin is open with a higher iteration than this one's body, which is whole
 abbrev pub IsLower : ℕ → (List ℕ → Type 0) → Type 0
 IsLower twin images = (c : List ℕ) → images c → (mine theirs : DbHeader) × (body_read twin (body_at twin c) ≡ Ok mine)
-    × (body_read (1 - twin) (body_at (1 - twin) c) ≡ Ok theirs) × (gate_at (1 - twin) c ≡ 1) × (mine.iteration < theirs.iteration)
+    × (body_read (1 - twin) (body_at (1 - twin) c) ≡ Ok theirs) × (gate_at (1 - twin) c ≡ 1)
+    × (mine.iteration < theirs.iteration)
 
 -- when a twin's gate may be written with 0, or with nothing
 abbrev pub MayClose : Bool → ℕ → (List ℕ → Type 0) → Type 0
 MayClose true twin images = IsLower twin images
 MayClose false twin images = IsClosed twin images
 
-abbrev pub closing : Bool → List ℕ
-closing true = 0 ∷ []
-closing false = []
+abbrev pub closing_bytes : Bool → List ℕ
+closing_bytes true = 0 ∷ []
+closing_bytes false = []

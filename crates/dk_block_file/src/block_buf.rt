@@ -1,23 +1,23 @@
-// A block in memory.
-ghost use Rattle.std.specs.Prelude.{◌≡◌, ◌⊎◌, ◌≤◌, ◌+◌, ◌++◌, true, false, length, take, drop, IfOk, IfSome, OnOk, OnErr};
+//! A block in memory.
+ghost use Rattle.std.specs.Prelude.{◌≡◌, ◌≤◌, ◌+◌, ◌++◌, ◌∷◌, [], length, take, drop, IfOk, IfSome, OnOk, OnErr};
 ghost use Rattle.std.specs.Borrow.{sem};
 ghost use Rattle.std.specs.Int.{w64, to_le_bytes};
 ghost use Rattle.dk_bytes.specs.Checksum.{checksum_of};
-ghost use Rattle.dk_device.specs.Causes.{HasCause};
-ghost use Rattle.dk_device.specs.Disk.{SameFiles, SameImages, Elapses, with_call, call_at};
+ghost use Rattle.dk_fault.specs.Causes.{HasCause};
+ghost use Rattle.dk_device.specs.Calls.{Makes};
+ghost use Rattle.dk_device.specs.Changes.{Looks};
 ghost use Rattle.dk_device.specs.declared.device.FileId.TheVariants.{Main};
-ghost use Rattle.dk_device.specs.declared.calls.Handed.TheVariants.{Read};
-ghost use Rattle.dk_block_file.specs.Blocks.{stored_sum, payload_sum, sealed};
+ghost use Rattle.dk_device.specs.declared.calls.Request.TheVariants.{Read};
+ghost use Rattle.dk_block_file.specs.Blocks.{zero_block, stored_sum, payload_sum, with_sum};
 ghost use Rattle.dk_block_file.specs.Lending.{LendsPayload};
 
+use crate::layout::{BLOCK_BYTES, PAYLOAD_BYTES};
 use dk_bytes::checksum;
 use dk_device::{Disk, Failed, FileId};
 use std::alloc::{AllocError as OutOfMemory, Global};
 use std::marker::Model;
 
-const BLOCK_BYTES: usize = 262_144;
-
-/// One block: a checksum of 8 bytes, and a payload of 262,136.
+/// One block: a checksum of 8 bytes, and its payload.
 #[derive(Drop)]
 pub struct BlockBuf {
     bytes: Vec<u8>,
@@ -25,12 +25,13 @@ pub struct BlockBuf {
 
 impl Model for BlockBuf {
     ghost use Rattle.std.specs.Prelude.{◌≡◌, ℕ, List, length};
+    ghost use Rattle.dk_block_file.specs.declared.layout.TheConstants.{BLOCK_BYTES};
 
     ghost Value = { List ℕ };
 
     ghost view = { λ b. b.bytes.items };
 
-    ghost invariant = { λ b. length b.bytes.items ≡ 262144 };
+    ghost invariant = { λ b. length b.bytes.items ≡ BLOCK_BYTES };
 }
 
 fn seal_bytes(block: &mut [u8])
@@ -59,19 +60,26 @@ fn computed_in(block: &[u8]) -> u64
 }
 
 impl BlockBuf {
-    /// A block, which takes its 262,144 bytes at once.
+    /// A block of zeros, which takes its 262,144 bytes at once.
     pub fn new(alloc: Global) -> Result<BlockBuf, OutOfMemory>
-        ensures { IfOk result (λ block. length block ≡ 262144) }
+        ensures { IfOk result (λ block. block ≡ zero_block) }
     {
         Ok(BlockBuf {
-            bytes: vec![in alloc; 0; BLOCK_BYTES]?,
+            bytes: vec![in alloc; 0; BLOCK_BYTES as usize]?,
         })
+    }
+
+    /// Makes all bytes zero.
+    pub fn clear(&mut self)
+        ensures { self.new ≡ zero_block }
+    {
+        self.bytes.as_mut_slice().fill(0);
     }
 
     /// The bytes behind the checksum.
     pub fn payload(&self) -> &[u8]
         ensures bytes { result.now ≡ drop 8 self.now }
-        ensures len { length result.now ≡ 262136 }
+        ensures len { length result.now ≡ PAYLOAD_BYTES }
     {
         let (_, payload) = self.bytes.as_slice().split_at(8);
         payload
@@ -81,7 +89,7 @@ impl BlockBuf {
     pub fn payload_mut(&mut self) -> &mut [u8]
         ensures* lends { sem 𝓛 (LendsPayload self.entry result) }
         ensures bytes { result.now ≡ drop 8 self.old }
-        ensures len { length result.now ≡ 262136 }
+        ensures len { length result.now ≡ PAYLOAD_BYTES }
     {
         self.bytes.slice_mut(8..)
     }
@@ -89,22 +97,19 @@ impl BlockBuf {
     /// All bytes.
     pub(crate) fn as_slice(&self) -> &[u8]
         ensures bytes { result.now ≡ self.now }
-        ensures len { length result.now ≡ 262144 }
+        ensures len { length result.now ≡ BLOCK_BYTES }
     {
         self.bytes.as_slice()
     }
 
     /// Reads all bytes from a place of the main file.
     pub(crate) fn fill<D: Disk>(&mut self, disk: &mut D, at: u64) -> Result<(), Failed>
-        requires { at + 262144 ≤ D.extent disk.old Main }
-        ensures whole { length self.old ≡ 262144 }
-        ensures bytes { OnOk result (IfSome (D.content disk.old Main) (λ main. self.new ≡ take (length self.old) (drop at main))) }
-        ensures content { SameFiles (D.content disk.old) (D.content disk.new) }
-        ensures extent { SameFiles (D.extent disk.old) (D.extent disk.new) }
-        ensures images { SameImages (D.leaves disk.old (D.time disk.old)) (D.leaves disk.new (D.time disk.new)) }
-        ensures time { Elapses (D.time disk.old) (D.time disk.new) (D.leaves disk.old) (D.leaves disk.new) }
-        ensures called { OnOk result (D.calls disk.new ≡ with_call (call_at (D.time disk.old) Main (Read at 262144) true) (D.calls disk.old)) }
-        ensures tried { OnErr result ((D.calls disk.new ≡ D.calls disk.old) ⊎ (D.calls disk.new ≡ with_call (call_at (D.time disk.old) Main (Read at 262144) false) (D.calls disk.old))) }
+        requires { at + BLOCK_BYTES ≤ D.extent disk.old Main }
+        ensures whole { length self.old ≡ BLOCK_BYTES }
+        ensures bytes { OnOk result (IfSome (D.content disk.old Main)
+            (λ main. self.new ≡ take (length self.old) (drop at main))) }
+        ensures looks { Looks D.Disk disk.old disk.new }
+        ensures calls { Makes D.Disk ((Main, Read at BLOCK_BYTES) ∷ []) disk.old disk.new result }
         ensures cause { HasCause (D.faults disk.old) (D.faults disk.new) result }
     {
         disk.read_at(FileId::Main, at, self.bytes.as_mut_slice())
@@ -112,8 +117,8 @@ impl BlockBuf {
 
     /// Puts the payload's checksum in front of it.
     pub(crate) fn seal(&mut self)
-        ensures sealed { self.new ≡ sealed self.old }
-        ensures len { length self.new ≡ 262144 }
+        ensures with_sum { self.new ≡ with_sum self.old }
+        ensures len { length self.new ≡ BLOCK_BYTES }
     {
         seal_bytes(self.bytes.as_mut_slice());
     }

@@ -1,12 +1,16 @@
+//! A database made, written and flipped on a disk in memory that fails, and on real files.
 ghost use Rattle.std.specs.Prelude.{◌≤◌};
 ghost use Rattle.dk_device.specs.declared.device.FileId.TheVariants.{Main};
+ghost use Rattle.dk_device.specs.Changes.{images_of};
+ghost use Rattle.dk_block_file.specs.Current.{HasHeaders};
 ghost use Rattle.dk_block_file.specs.Flips.{IsClosed};
 
 use crate::{
-    BlockBuf, BlockFault, create, flip_body, flip_close, flip_open, read_block, write_block,
+    BLOCK_BYTES, BlockBuf, BlockFault, HEADERS_BYTES, create, flip_body, flip_close, flip_open,
+    read_block, write_block,
 };
 use dk_device::{Choice, Disk, Failed, FileId, HostDisk, MemoryDisk};
-use dk_header::{DbHeader, choose};
+use dk_header::{DbHeader, LOG_HEADER_BYTES, NO_ROOT, choose, log_header};
 use dk_types::Damage;
 use std::alloc::{AllocError, Global};
 use std::fs;
@@ -21,7 +25,8 @@ fn lengths<D: Disk>(disk: &D) -> (u64, u64, u64) {
     (disk.moment(), disk.len(FileId::Main), disk.len(FileId::Wal))
 }
 
-/// The calls are made through functions without a contract of their own, since what they say of a disk in memory is long.
+/// The calls are made through functions without a contract of their own, since what they say of a disk in memory is
+/// long.
 fn make<D: Disk>(alloc: Global, disk: &mut D) -> Result<(), BlockFault> {
     create(alloc, disk)
 }
@@ -31,7 +36,7 @@ fn read<D: Disk>(disk: &mut D, block: u64, buf: &mut BlockBuf) -> Result<(), Blo
 }
 
 fn write_first<D: Disk>(disk: &mut D, buf: &mut BlockBuf) -> Result<(), BlockFault> {
-    if disk.len(FileId::Main) < 12_288 {
+    if disk.len(FileId::Main) < HEADERS_BYTES {
         return Err(BlockFault::DiskFault);
     }
     write_block(disk, 0, buf)
@@ -54,10 +59,10 @@ fn first_two(block: &BlockBuf) -> Option<(u8, u8)> {
 fn a_block_reads_as_written(rt: HostRuntime) -> Result<(), Fail> {
     let mut disk = disk_of(rt.alloc(), &[])?;
     make(rt.alloc(), &mut disk)?;
-    assert_eq!(rt; lengths(&disk), (6, 12_288, 24));
+    assert_eq!(rt; lengths(&disk), (6, HEADERS_BYTES, 24));
     let mut block = block_with(rt.alloc(), 5)?;
     write_first(&mut disk, &mut block)?;
-    assert_eq!(rt; lengths(&disk), (7, 274_432, 24));
+    assert_eq!(rt; lengths(&disk), (7, HEADERS_BYTES + BLOCK_BYTES, 24));
     let mut again = BlockBuf::new(rt.alloc())?;
     read(&mut disk, 0, &mut again)?;
     assert_eq!(rt; first_two(&again), Some((5, 0)));
@@ -81,13 +86,13 @@ fn spoil<D: Disk>(disk: &mut D) -> Result<(), Failed> {
 }
 
 #[test]
-fn a_changed_block_is_told(rt: HostRuntime) -> Result<(), Fail> {
+fn a_changed_block_is_found(rt: HostRuntime) -> Result<(), Fail> {
     let mut disk = disk_of(rt.alloc(), &[])?;
     make(rt.alloc(), &mut disk)?;
     let mut block = block_with(rt.alloc(), 5)?;
     write_first(&mut disk, &mut block)?;
     spoil(&mut disk)?;
-    let told = match read(&mut disk, 0, &mut block) {
+    let found = match read(&mut disk, 0, &mut block) {
         Err(
             BlockFault::Damaged(
                 Damage::Sum {
@@ -99,7 +104,7 @@ fn a_changed_block_is_told(rt: HostRuntime) -> Result<(), Fail> {
         ) => block == 0 && stored != computed,
         _ => false,
     };
-    assert!(rt; told);
+    assert!(rt; found);
     Ok(())
 }
 
@@ -187,19 +192,87 @@ fn a_crash_inside_the_creation_leaves_a_header_or_none(rt: HostRuntime) -> Resul
     Ok(())
 }
 
+/// Whether an image of the log is a front of what it was, or no longer than a header.
+fn is_front_or_header(image: &[u8], old: &[u8]) -> bool {
+    image.len() <= LOG_HEADER_BYTES || old.starts_with(image)
+}
+
+/// Whether an old log is so at each moment of a creation that cuts it, and has a header of its own at the end.
+fn is_cut(disk: &MemoryDisk, old: &[u8], choice: Choice) -> Result<bool, AllocError> {
+    let mut cut = true;
+    for moment in 0..7 {
+        if moment <= disk.moment() {
+            let image = disk.image_at(moment, choice)?;
+            cut = cut && is_front_or_header(image.1.as_slice(), old);
+            cut = cut && (moment < 6 || image.1.as_slice() == log_header(1).as_slice());
+        }
+    }
+    Ok(cut)
+}
+
+#[test]
+fn an_old_log_is_as_it_was_or_empty(rt: HostRuntime) -> Result<(), Fail> {
+    let alloc = rt.alloc();
+    let old = [9; 60];
+    let mut disk = MemoryDisk::new(Vec::new(alloc), old.to_vec(alloc)?, Vec::new(alloc));
+    make(alloc, &mut disk)?;
+    assert!(rt; is_cut(&disk, &old, Choice::Kept)?);
+    assert!(rt; is_cut(&disk, &old, Choice::Lost)?);
+    assert!(rt; is_cut(&disk, &old, Choice::Torn { byte: 7 })?);
+    Ok(())
+}
+
 /// Makes twin 1 the current one.
 fn flip_second<D: Disk>(disk: &mut D) -> Result<(), BlockFault>
-    requires headers { 12288 ≤ D.extent disk.old Main }
-    requires closed { IsClosed 1 (D.leaves disk.old (D.time disk.old) Main) }
+    requires headers { HasHeaders D.Disk disk.old }
+    requires closed { IsClosed 1 (images_of D.Disk disk.old Main) }
 {
     let header = DbHeader {
         iteration: 2,
-        root: u64::MAX,
+        root: NO_ROOT,
         blocks: 0,
     };
     flip_close(disk, 1, false)?;
     flip_body(disk, 1, &header)?;
     flip_open(disk, 1)
+}
+
+/// Makes twin 1 the current one, where a first close or body may have failed.
+fn flip_again<D: Disk>(disk: &mut D) -> Result<(), BlockFault>
+    requires headers { HasHeaders D.Disk disk.old }
+    requires closed { IsClosed 1 (images_of D.Disk disk.old Main) }
+{
+    let header = DbHeader {
+        iteration: 3,
+        root: NO_ROOT,
+        blocks: 0,
+    };
+    let _ = flip_close(disk, 1, false);
+    let _ = flip_body(disk, 1, &header);
+    flip_second(disk)
+}
+
+fn make_flipped_again<D: Disk>(alloc: Global, disk: &mut D) -> Result<(), BlockFault> {
+    create(alloc, disk)?;
+    flip_again(disk)
+}
+
+/// How far two flips come on a disk that fails at a moment of the first.
+fn flip_failing(alloc: Global, moment: u64) -> Result<(u64, Option<u64>), Fail> {
+    let mut disk = disk_of(alloc, &[moment])?;
+    make_flipped_again(alloc, &mut disk)?;
+    let end = disk.moment();
+    let image = disk.image_at(end, Choice::Lost)?;
+    Ok((end, iteration(image.0.as_slice())))
+}
+
+#[test]
+fn a_flip_goes_on_after_a_fault(rt: HostRuntime) -> Result<(), Fail> {
+    assert_eq!(rt; flip_failing(rt.alloc(), 6)?, (15, Some(2)));
+    assert_eq!(rt; flip_failing(rt.alloc(), 7)?, (16, Some(2)));
+    assert_eq!(rt; flip_failing(rt.alloc(), 8)?, (15, Some(2)));
+    assert_eq!(rt; flip_failing(rt.alloc(), 9)?, (16, Some(2)));
+    Ok(())
 }
 
 fn make_flipped<D: Disk>(alloc: Global, disk: &mut D) -> Result<(), BlockFault> {
@@ -217,7 +290,7 @@ fn flipped(alloc: Global) -> Result<MemoryDisk, Fail> {
 #[test]
 fn a_crash_inside_a_flip_leaves_one_of_two_headers(rt: HostRuntime) -> Result<(), Fail> {
     let disk = flipped(rt.alloc())?;
-    assert_eq!(rt; lengths(&disk), (12, 12_288, 24));
+    assert_eq!(rt; lengths(&disk), (12, HEADERS_BYTES, 24));
     assert!(rt; have_iteration(&disk, (6, 11), Choice::Kept, Some(1))?);
     assert!(rt; have_iteration(&disk, (11, 13), Choice::Kept, Some(2))?);
     assert!(rt; have_iteration(&disk, (6, 12), Choice::Lost, Some(1))?);
@@ -255,7 +328,7 @@ fn a_block_of_a_real_file_is_found_again(rt: HostRuntime) -> Result<(), Fail> {
     let _ = fs::remove_file(&rt, "dk_block_file_test.db.wal");
     leave_a_block(&rt, "dk_block_file_test.db")?;
     let mut again = host(&rt, "dk_block_file_test.db")?;
-    assert_eq!(rt; lengths(&again), (0, 274_432, 24));
+    assert_eq!(rt; lengths(&again), (0, HEADERS_BYTES + BLOCK_BYTES, 24));
     let mut block = BlockBuf::new(rt.alloc())?;
     read(&mut again, 0, &mut block)?;
     assert_eq!(rt; first_two(&block), Some((9, 0)));

@@ -1,2 +1,2 @@
-mod Flags
-mod Marks
+pub mod FlagLemmas
+pub mod UsedLemmas

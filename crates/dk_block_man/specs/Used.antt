@@ -20,6 +20,10 @@ used_of flags = used_from 0 flags
 abbrev pub is_among : List ℕ → ℕ → Bool
 is_among used block = list_any (λ y. y == block) used
 
+-- all of these are numbers of blocks
+abbrev pub AreBelow : ℕ → List ℕ → Type 0
+AreBelow blocks used = (k : ℕ) → is_among used k ≡ true → k < blocks
+
 -- the least number from this one on that isn't among ascending ones
 abbrev pub least_from : ℕ → List ℕ → ℕ
 least_from block [] = block
@@ -37,6 +41,23 @@ with_block block (x ∷ used) = if nat_lt block x then block ∷ x ∷ used else
 abbrev pub without_block : ℕ → List ℕ → List ℕ
 without_block block [] = []
 without_block block (x ∷ used) = if x == block then used else x ∷ without_block block used
+
+-- a block is the least that isn't used: each lesser one is
+pub record IsLeastUnused (block : ℕ) (used : List ℕ) : Type 0 where
+  pub is : block ≡ least_unused used
+  pub unused : is_among used block ≡ false
+  pub lesser : (k : ℕ) → k < block → is_among used k ≡ true
+
+-- a block that wasn't used is, and no other changes; giving it back restores what was
+pub record Gains (block : ℕ) (old new : List ℕ) : Type 0 where
+  pub is : new ≡ with_block block old
+  pub others : (k : ℕ) → is_among new k ≡ (if k == block then true else is_among old k)
+  pub restores : without_block block new ≡ old
+
+-- a used block isn't, and no other changes
+pub record Loses (block : ℕ) (old new : List ℕ) : Type 0 where
+  pub is : new ≡ without_block block old
+  pub others : (k : ℕ) → is_among new k ≡ (if k == block then false else is_among old k)
 
 -- each flag below a place is set
 pub record AllUsed (place : ℕ) (flags : List Bool) : Type 0 where

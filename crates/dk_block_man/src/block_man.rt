@@ -1,5 +1,5 @@
-// Used and free blocks.
-ghost use Rattle.std.specs.Prelude.{◌≡◌, ◌≤◌, ◌<◌, ◌+◌, ℕ, [], length, max, true, false, not, IfOk, OnErr, get_or, if◌then◌else◌};
+//! The manager of the blocks of a file: which are used.
+ghost use Rattle.std.specs.Prelude.{◌≡◌, ◌≤◌, ◌<◌, ◌+◌, ℕ, [], length, max, true, false, not, ◌==◌, IfOk, OnErr, get_or, if◌then◌else◌};
 
 use crate::search::{first_unused, set_flag};
 use std::alloc::{AllocError as OutOfMemory, Global};
@@ -25,7 +25,7 @@ impl Model for BlockMan {
 }
 
 impl BlockMan {
-    ghost use Rattle.dk_block_man.specs.Used.{least_unused, is_among, with_block, without_block};
+    ghost use Rattle.dk_block_man.specs.Used.{least_unused, is_among, AreBelow, with_block, IsLeastUnused, Gains, Loses};
 
     /// The blocks of a file, none of them used.
     pub fn new(alloc: Global, blocks: u64) -> Result<BlockMan, OutOfMemory>
@@ -40,9 +40,9 @@ impl BlockMan {
 
     /// The least unused number, which is the file's number of blocks where all are used, and marks it.
     pub fn take(&mut self) -> Result<u64, OutOfMemory>
-        ensures least { IfOk result (λ block. block ≡ least_unused self.old.used) }
-        ensures unused { IfOk result (λ block. is_among self.old.used block ≡ false) }
-        ensures marked { IfOk result (λ block. self.new.used ≡ with_block block self.old.used) }
+        ensures least { IfOk result (λ block. IsLeastUnused block self.old.used) }
+        ensures taken { IfOk result (λ block. Gains block self.old.used self.new.used) }
+        ensures within { AreBelow self.new.blocks self.new.used }
         ensures blocks { IfOk result (λ block. self.new.blocks ≡ max self.old.blocks (block + 1)) }
         ensures err { OnErr result (self.new ≡ self.old) }
         ensures grows { OnErr result (least_unused self.old.used ≡ self.old.blocks) }
@@ -58,6 +58,9 @@ impl BlockMan {
         requires { block < self.old.blocks }
         ensures was { result ≡ not (is_among self.old.used block) }
         ensures marked { self.new.used ≡ (if result then with_block block self.old.used else self.old.used) }
+        ensures others { (k : ℕ) → is_among self.new.used k ≡
+            (if k == block then true else is_among self.old.used k) }
+        ensures within { AreBelow self.new.blocks self.new.used }
         ensures blocks { self.new.blocks ≡ self.old.blocks }
     {
         let place = block as usize;
@@ -71,7 +74,8 @@ impl BlockMan {
     /// Gives a used block back.
     pub fn give(&mut self, block: u64)
         requires { is_among self.old.used block ≡ true }
-        ensures given { self.new.used ≡ without_block block self.old.used }
+        ensures given { Loses block self.old.used self.new.used }
+        ensures within { AreBelow self.new.blocks self.new.used }
         ensures blocks { self.new.blocks ≡ self.old.blocks }
     {
         let place = block as usize;

@@ -1,4 +1,4 @@
-// The search for an unused block.
+//! The search for an unused block.
 ghost use Rattle.std.specs.Prelude.{◌≡◌, ◌≤◌, ◌<◌, ◌+◌, length, max, true, false, get_or, OnOk, OnErr};
 ghost use Rattle.dk_block_man.specs.Used.{AllUsed, used_of, with_block};
 

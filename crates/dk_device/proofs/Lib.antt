@@ -1,5 +1,7 @@
-mod Chosen
-mod OneMore
-mod Outcome
-mod Overlaid
-mod Step
+pub mod CallLemmas
+pub mod ChangeLemmas
+pub mod ImageLemmas
+pub mod OutcomeLemmas
+pub mod OverlayLemmas
+pub mod ReplayLemmas
+pub mod StepLemmas

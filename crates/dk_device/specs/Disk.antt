@@ -1,10 +1,11 @@
 -- What the calls of a disk do to its two files, and what a crash may leave of each.
-use Rattle.std.specs.Prelude.{◌≡◌, ◌↔◌, ℕ, ◌+◌, ◌^◌, ◌≤◌, min, max, Bool, List, [], ◌∷◌, ◌++◌, length, take, drop, Option}
+use Rattle.std.specs.Prelude.{◌≡◌, ◌↔◌, ℕ, ◌+◌, ◌≤◌, min, max, Bool, List, [], ◌∷◌, ◌++◌, length, take, drop, Option}
 use Rattle.std.proofs.Common.{option_map}
+use Rattle.dk_device.specs.declared.device.TheConstants.{LAST_MOMENT}
 use Rattle.dk_device.specs.declared.device.FileId.{FileId}
 use Rattle.dk_device.specs.declared.device.FileId.TheVariants.{Main, Wal}
 use Rattle.dk_device.specs.declared.calls.DiskCall.{DiskCall}
-use Rattle.dk_device.specs.declared.calls.Handed.{Handed}
+use Rattle.dk_device.specs.declared.calls.Request.{Request}
 
 -- what stands for a file, of two
 abbrev pub of_file : {T : Type 0} → FileId → T → T → T
@@ -20,19 +21,19 @@ other Wal = Main
 abbrev pub overlaid : ℕ → List ℕ → List ℕ → List ℕ
 overlaid at bytes old = take at old ++ bytes ++ drop (at + length bytes) old
 
--- What a crash may leave after a write of n bytes, where it might have left `old` before:
--- any bytes in the range and past the old end, the same elsewhere, and a length up to the range's end.
-pub record TornWrite (at n : ℕ) (old new : List ℕ) : Type 0 where
+-- What a crash may leave after a write of n bytes to a file that reads as `extent` bytes, where it might have left
+-- `old` before: any bytes in the range, the same elsewhere, and a length up to the range's end. A write that lengthens
+-- the file makes its end an old one, past which any bytes may stand.
+pub record TornWrite (at n extent : ℕ) (old new : List ℕ) : Type 0 where
   pub before : take (min at (length old)) new ≡ take at old
-  pub after : drop (at + n) new ≡ drop (at + n) old
+  pub after : at + n ≤ extent → drop (at + n) new ≡ drop (at + n) old
   pub no_shorter : length old ≤ length new
   pub no_longer : length new ≤ max (length old) (at + n)
 
--- What a crash may leave after a cut: it happened or it didn't, and any bytes stand behind the new end.
+-- What a crash may leave after a cut: a front of what it might have left before, no shorter than the new length.
 pub record TornCut (n : ℕ) (old new : List ℕ) : Type 0 where
-  pub before : take n new ≡ take n old
+  pub front : new ≡ take (length new) old
   pub no_shorter : min n (length old) ≤ length new
-  pub no_longer : length new ≤ length old
 
 -- each image after a call is one from before it, after a step
 abbrev pub Follows : (List ℕ → List ℕ → Type 0) → (List ℕ → Type 0) → (List ℕ → Type 0) → Type 0
@@ -52,10 +53,11 @@ SameFiles old new = (f : FileId) → new f ≡ old f
 
 -- the moment after a call that begins at this one
 abbrev pub next_moment : ℕ → ℕ
-next_moment moment = min (moment + 1) (2 ^ 62)
+next_moment moment = min (moment + 1) LAST_MOMENT
 
--- Time goes on by one call, and what a crash at an earlier moment could have left stays what it was.
+-- Time goes on by one call, up to its end, and what a crash at an earlier moment could have left stays what it was.
 pub record Elapses (before now : ℕ) (past since : ℕ → FileId → List ℕ → Type 0) : Type 0 where
+  pub bound : before ≤ LAST_MOMENT
   pub next : now ≡ next_moment before
   pub same : (k : ℕ) (f : FileId) (c : List ℕ) → k ≤ before → since k f c ↔ past k f c
 
@@ -64,5 +66,5 @@ abbrev pub with_call : DiskCall → Option (List DiskCall) → Option (List Disk
 with_call call told = option_map (λ calls. calls ++ call ∷ []) told
 
 -- a call of this kind that began at a moment, and whether it was done
-abbrev pub call_at : ℕ → FileId → Handed → Bool → DiskCall
-call_at moment file handed done = record { moment = moment; file = file; handed = handed; done = done }
+abbrev pub call_at : ℕ → FileId → Request → Bool → DiskCall
+call_at moment file request done = record { moment = moment; file = file; request = request; done = done }

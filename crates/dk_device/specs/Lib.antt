@@ -1,9 +1,10 @@
-pub mod Causes
+pub mod Calls
+pub mod Changes
+pub mod ContentIsImage
 pub mod Disk
 pub mod File
 pub mod Host
 pub mod HostFiles
 pub mod Image
-pub mod Left
 pub mod Memory
 pub mod Replay

@@ -4,8 +4,8 @@ use Rattle.std.specs.List.{filter}
 use Rattle.dk_device.specs.declared.device.FileId.{FileId}
 use Rattle.dk_device.specs.declared.device.FileId.TheVariants.{Main, Wal}
 use Rattle.dk_device.specs.declared.calls.DiskCall.{DiskCall}
-use Rattle.dk_device.specs.declared.calls.Handed.{Handed}
-use Rattle.dk_device.specs.declared.calls.Handed.TheVariants.{Read, Write, Cut, Sync}
+use Rattle.dk_device.specs.declared.calls.Request.{Request}
+use Rattle.dk_device.specs.declared.calls.Request.TheVariants.{Read, Write, Cut, Sync}
 use Rattle.dk_device.specs.Disk.{of_file, overlaid, TornWrite, TornCut, next_moment, call_at}
 
 -- the first where the two files are one, else the second
@@ -16,44 +16,47 @@ if_same Wal Main same differs = differs
 if_same Wal Wal same differs = same
 
 -- what a call that is done makes of its file
-abbrev pub effect : Handed → List ℕ → List ℕ
+abbrev pub effect : Request → List ℕ → List ℕ
 effect (Read at len) old = old
 effect (Write at bytes) old = overlaid at bytes old
 effect (Cut len) old = take len old
 effect Sync old = old
 
 -- what a crash may leave of its file, of which it might have left `before` and which reads `now`
-abbrev pub LeftBy : Handed → List ℕ → List ℕ → List ℕ → Type 0
-LeftBy (Read at len) now before after = after ≡ before
-LeftBy (Write at bytes) now before after = TornWrite at (length bytes) before after
-LeftBy (Cut len) now before after = TornCut len before after
-LeftBy Sync now before after = after ≡ now
+abbrev pub MayLeaveBy : Request → List ℕ → List ℕ → List ℕ → Type 0
+MayLeaveBy (Read at len) now before after = after ≡ before
+MayLeaveBy (Write at bytes) now before after = TornWrite at (length bytes) (length now) before after
+MayLeaveBy (Cut len) now before after = TornCut len before after
+MayLeaveBy Sync now before after = after ≡ now
 
 -- a call that is not done does nothing
-abbrev pub done_by : Bool → Handed → List ℕ → List ℕ
-done_by true handed old = effect handed old
-done_by false handed old = old
+abbrev pub effect_if : Bool → Request → List ℕ → List ℕ
+effect_if true request old = effect request old
+effect_if false request old = old
 
-abbrev pub LeftIf : Bool → Handed → List ℕ → List ℕ → List ℕ → Type 0
-LeftIf true handed now before after = LeftBy handed now before after
-LeftIf false handed now before after = after ≡ before
+abbrev pub MayLeaveIf : Bool → Request → List ℕ → List ℕ → List ℕ → Type 0
+MayLeaveIf true request now before after = MayLeaveBy request now before after
+MayLeaveIf false request now before after = after ≡ before
 
 -- nor does one for the other file
-abbrev pub made_by : Bool → FileId → FileId → Handed → List ℕ → List ℕ
-made_by done file called_file handed old = if_same file called_file (done_by done handed old) old
+abbrev pub effect_on : Bool → FileId → FileId → Request → List ℕ → List ℕ
+effect_on done file file_called request old = if_same file file_called (effect_if done request old) old
 
-abbrev pub Leaves : Bool → FileId → FileId → Handed → List ℕ → List ℕ → List ℕ → Type 0
-Leaves done file called_file handed now before after = if_same file called_file (LeftIf done handed now before after) (after ≡ before)
+abbrev pub MayLeaveOf : Bool → FileId → FileId → Request → List ℕ → List ℕ → List ℕ → Type 0
+MayLeaveOf done file file_called request now before after = if_same file file_called
+    (MayLeaveIf done request now before after) (after ≡ before)
 
 -- how a file reads behind these calls
 abbrev pub content_after : FileId → List ℕ → List DiskCall → List ℕ
 content_after file now [] = now
-content_after file now (call ∷ calls) = content_after file (made_by call.done file call.file call.handed now) calls
+content_after file now (call ∷ calls) = content_after file (effect_on call.done file call.file call.request now) calls
 
 -- what a crash behind these calls may leave of it
-abbrev pub LeftAfter : FileId → List ℕ → List ℕ → List DiskCall → List ℕ → Type 0
-LeftAfter file now image [] c = c ≡ image
-LeftAfter file now image (call ∷ calls) c = (next : List ℕ) × Leaves call.done file call.file call.handed now image next × LeftAfter file (made_by call.done file call.file call.handed now) next calls c
+abbrev pub MayLeaveAfter : FileId → List ℕ → List ℕ → List DiskCall → List ℕ → Type 0
+MayLeaveAfter file now image [] c = c ≡ image
+MayLeaveAfter file now image (call ∷ calls) c = (next : List ℕ)
+    × MayLeaveOf call.done file call.file call.request now image next
+    × MayLeaveAfter file (effect_on call.done file call.file call.request now) next calls c
 
 -- two files as they were at first, and the calls since
 pub record History : Type 0 where
@@ -73,13 +76,13 @@ abbrev pub content_of : History → FileId → List ℕ
 content_of h file = content_after file (start_of h file) h.calls
 
 -- what a crash at a moment could have left
-abbrev pub left_of : History → ℕ → FileId → List ℕ → Type 0
-left_of h k file c = LeftAfter file (start_of h file) (start_of h file) (calls_before h k) c
+abbrev pub MayLeaveAt : History → ℕ → FileId → List ℕ → Type 0
+MayLeaveAt h k file c = MayLeaveAfter file (start_of h file) (start_of h file) (calls_before h k) c
 
 -- with one call more
-abbrev pub called : FileId → Handed → Bool → History → History
-called file handed done h = record h { calls = h.calls ++ call_at h.moment file handed done ∷ []; moment = h.moment + 1 }
+abbrev pub after_call : FileId → Request → Bool → History → History
+after_call file request done h = record h { calls = h.calls ++ call_at h.moment file request done ∷ []; moment = h.moment + 1 }
 
 -- with a call more that left nothing in the list
-abbrev pub unlisted : History → History
-unlisted h = record h { moment = next_moment h.moment }
+abbrev pub after_unlisted_call : History → History
+after_unlisted_call h = record h { moment = next_moment h.moment }

@@ -1,4 +1,4 @@
-// Bytes written over others.
+//! Bytes written over others.
 ghost use Rattle.std.specs.Prelude.{◌≡◌, ◌+◌, ◌≤◌, ◌++◌, length, take, drop, vec_len, OnOk, OnErr};
 ghost use Rattle.dk_device.specs.Disk.{overlaid};
 
@@ -27,7 +27,7 @@ fn overwrite_within(content: &mut Vec<u8>, at: usize, bytes: &[u8]) -> Result<()
 }
 
 /// Writes the bytes over those at a place, or at the end where the place is past it.
-#[tactic(auto, using(crate::proofs::Overlaid::overlaid_min))]
+#[tactic(auto, using(crate::proofs::OverlayLemmas::overlaid_min))]
 pub(crate) fn overwrite(content: &mut Vec<u8>, at: usize, bytes: &[u8]) -> Result<(), OutOfMemory>
     ensures ok { OnOk result (content.new.items ≡ overlaid at bytes.now content.old.items) }
     ensures err { OnErr result (content.new.items ≡ content.old.items) }

@@ -1,11 +1,11 @@
-// The calls of a disk, with what they were handed.
+//! The calls of a disk, with what they asked for.
 ghost use Rattle.std.specs.Prelude.{◌≡◌, List, ℕ, IfOk, length};
 
 use crate::FileId;
 use std::alloc::{AllocError as OutOfMemory, Global};
 use std::marker::Model;
 
-/// The bytes that a write was handed.
+/// The bytes that a write was given.
 #[derive(Drop)]
 pub struct Written {
     bytes: Vec<u8>,
@@ -35,7 +35,7 @@ impl Written {
 
 /// What a call of a disk asks for.
 #[derive(Drop)]
-pub enum Handed {
+pub enum Request {
     Read { at: u64, len: u64 },
     Write { at: u64, bytes: Written },
     Cut { len: u64 },
@@ -48,7 +48,7 @@ pub struct DiskCall {
     /// The number of calls begun before it.
     pub moment: u64,
     pub file: FileId,
-    pub handed: Handed,
+    pub request: Request,
     /// Whether it answered Ok.
     pub done: bool,
 }

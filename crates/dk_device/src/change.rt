@@ -1,38 +1,35 @@
-// What a call makes of two files in memory.
+//! What a call makes of two files in memory.
 ghost use Rattle.std.specs.Prelude.{◌≡◌, ◌⊎◌, ◌≤◌, ◌<◌, ◌+◌, ◌^◌, length, true, false, is_none, OnOk, OnErr};
 ghost use Rattle.dk_device.specs.declared.device.FileId.TheVariants.{Main, Wal};
 ghost use Rattle.dk_device.specs.declared.faults.Fault.TheVariants.{Listed, Refused, Ended, Passing};
 ghost use Rattle.dk_device.specs.Memory.{PassesEnd, is_listed, FaultShows};
-ghost use Rattle.dk_device.specs.Replay.{effect, done_by, made_by};
+ghost use Rattle.dk_device.specs.Replay.{effect, effect_if, effect_on};
 
-use crate::FileId;
-use crate::calls::Handed;
+use crate::calls::Request;
 use crate::faults::Fault;
 use crate::file::MemoryFile;
+use crate::{FileId, MOST_BYTES};
 use std::alloc::AllocError as OutOfMemory;
 
-/// The greatest length that a write may leave.
-const MOST_BYTES: u64 = 1 << 62;
-
 /// Does what a call asks for to its file.
-fn apply(target: &mut MemoryFile, handed: &Handed) -> Result<(), OutOfMemory>
+fn apply(target: &mut MemoryFile, request: &Request) -> Result<(), OutOfMemory>
     ensures start { target.new.start ≡ target.old.start }
-    ensures ok { OnOk result (target.new.bytes ≡ effect handed.now target.old.bytes) }
+    ensures ok { OnOk result (target.new.bytes ≡ effect request.now target.old.bytes) }
     ensures err { OnErr result (target.new.bytes ≡ target.old.bytes) }
 {
-    match handed {
-        Handed::Write { at, bytes } => target.write(*at as usize, bytes.as_slice()),
-        Handed::Cut { len } => target.cut(*len as usize),
-        Handed::Read { .. } | Handed::Sync => Ok(()),
+    match request {
+        Request::Write { at, bytes } => target.write(*at as usize, bytes.as_slice()),
+        Request::Cut { len } => target.cut(*len as usize),
+        Request::Read { .. } | Request::Sync => Ok(()),
     }
 }
 
-fn passes_end(handed: &Handed) -> bool
-    ensures yes { result ≡ true → PassesEnd handed.now }
-    ensures no { result ≡ false → PassesEnd handed.now → ⊥ }
+fn passes_end(request: &Request) -> bool
+    ensures yes { result ≡ true → PassesEnd request.now }
+    ensures no { result ≡ false → PassesEnd request.now → ⊥ }
 {
-    match handed {
-        Handed::Write { at, bytes } => {
+    match request {
+        Request::Write { at, bytes } => {
             *at > MOST_BYTES || bytes.as_slice().len() as u64 > MOST_BYTES - *at
         }
         _ => false,
@@ -40,18 +37,18 @@ fn passes_end(handed: &Handed) -> bool
 }
 
 /// Does what a call asks for, unless it is to fail.
-fn attempt(target: &mut MemoryFile, failing: &[u64], now: u64, handed: &Handed) -> Option<Fault>
+fn attempt(target: &mut MemoryFile, failing: &[u64], now: u64, request: &Request) -> Option<Fault>
     ensures start { target.new.start ≡ target.old.start }
-    ensures bytes { target.new.bytes ≡ done_by (is_none result) handed.now target.old.bytes }
-    ensures shows { FaultShows failing.now now handed.now result }
+    ensures bytes { target.new.bytes ≡ effect_if (is_none result) request.now target.old.bytes }
+    ensures shows { FaultShows failing.now now request.now result }
 {
     if failing.contains(&now) {
         return Some(Fault::Listed);
     }
-    if passes_end(handed) {
+    if passes_end(request) {
         return Some(Fault::Passing);
     }
-    match apply(target, handed) {
+    match apply(target, request) {
         Ok(()) => None,
         Err(_) => Some(Fault::Refused),
     }
@@ -64,16 +61,16 @@ pub(crate) fn attempt_at(
     file: FileId,
     failing: &[u64],
     now: u64,
-    handed: &Handed,
+    request: &Request,
 ) -> Option<Fault>
     ensures main_start { main.new.start ≡ main.old.start }
     ensures wal_start { wal.new.start ≡ wal.old.start }
-    ensures main { main.new.bytes ≡ made_by (is_none result) Main file handed.now main.old.bytes }
-    ensures wal { wal.new.bytes ≡ made_by (is_none result) Wal file handed.now wal.old.bytes }
-    ensures shows { FaultShows failing.now now handed.now result }
+    ensures main { main.new.bytes ≡ effect_on (is_none result) Main file request.now main.old.bytes }
+    ensures wal { wal.new.bytes ≡ effect_on (is_none result) Wal file request.now wal.old.bytes }
+    ensures shows { FaultShows failing.now now request.now result }
 {
     match file {
-        FileId::Main => attempt(main, failing, now, handed),
-        FileId::Wal => attempt(wal, failing, now, handed),
+        FileId::Main => attempt(main, failing, now, request),
+        FileId::Wal => attempt(wal, failing, now, request),
     }
 }

@@ -1,7 +1,8 @@
-// A disk of two files, as the store sees it.
+//! A disk of two files, as the store sees it.
 ghost use Rattle.std.specs.Prelude.{◌≡◌, ◌⊎◌, ◌↔◌, ◌+◌, ◌-◌, ◌≤◌, ◌^◌, ◌<◌, ℕ, List, [], ◌∷◌, ◌++◌, length, take, drop, max, Bool, true, false, is_ok, Option, Some, IfSome, IsErr, OnOk, OnErr};
 ghost use Rattle.std.proofs.Common.{option_map};
 
+use dk_fault::Failed;
 use thiserror::Error;
 
 /// The two files of a database.
@@ -13,10 +14,11 @@ pub enum FileId {
     Wal,
 }
 
-/// A call that the disk couldn't do.
-#[derive(Clone, Copy, Debug, PartialEq, Eq, Drop, Error)]
-#[error("disk fault")]
-pub struct Failed;
+/// The greatest moment, at which no call is done.
+pub const LAST_MOMENT: u64 = 1 << 62;
+
+/// The greatest length that a write may leave.
+pub const MOST_BYTES: u64 = 1 << 62;
 
 /// A call above the disk that a failed call of it ended.
 #[derive(Clone, Copy, Debug, PartialEq, Eq, Drop, Error)]
@@ -35,9 +37,9 @@ impl From<Failed> for DiskFault {
 pub trait Disk {
     ghost use Rattle.dk_device.specs.declared.device.FileId.{FileId};
     ghost use Rattle.dk_device.specs.declared.calls.DiskCall.{DiskCall};
-    ghost use Rattle.dk_device.specs.declared.calls.Handed.{Handed};
-    ghost use Rattle.dk_device.specs.declared.calls.Handed.TheVariants.{Read, Write, Cut, Sync};
-    ghost use Rattle.dk_device.specs.Causes.{HasCause};
+    ghost use Rattle.dk_device.specs.declared.calls.Request.{Request};
+    ghost use Rattle.dk_device.specs.declared.calls.Request.TheVariants.{Read, Write, Cut, Sync};
+    ghost use Rattle.dk_fault.specs.Causes.{HasCause};
     ghost use Rattle.dk_device.specs.Disk.{other, overlaid, TornWrite, TornCut, Follows, Allows, SameImages, SameFiles, Elapses, with_call, call_at};
 
     /// How many bytes a file has.
@@ -50,16 +52,16 @@ pub trait Disk {
     ghost time: { Self → ℕ };
 
     /// What a crash at a moment up to now, just before the call of that number, could have left of a file.
-    ghost leaves: { Self → ℕ → FileId → List ℕ → Type 0 };
+    ghost may_leave: { Self → ℕ → FileId → List ℕ → Type 0 };
 
-    /// The calls so far, each with its moment and what it was handed, where the disk tells them.
+    /// The calls so far, each with its moment and what it asked, where the disk tells them.
     ghost calls: { Self → Option (List DiskCall) };
 
     /// How often the disk has failed.
     ghost faults: { Self → ℕ };
 
     /// Why a call was done or not, where the disk tells that.
-    ghost told: { Self → Handed → Bool → Self → Type 0 };
+    ghost reason: { Self → Request → Bool → Self → Type 0 };
 
     /// How many bytes a file has.
     fn len(&self, file: FileId) -> u64
@@ -68,34 +70,54 @@ pub trait Disk {
     /// Reads the bytes from a place on.
     fn read_at(&mut self, file: FileId, at: u64, out: &mut [u8]) -> Result<(), Failed>
         requires { at + length out.old ≤ extent self.old file }
-        ensures bytes { OnOk result (IfSome (content self.old file) (λ bytes. out.new ≡ take (length out.old) (drop at bytes))) }
+        ensures bytes { OnOk result (IfSome (content self.old file)
+            (λ bytes. out.new ≡ take (length out.old) (drop at bytes))) }
         ensures content { SameFiles (content self.old) (content self.new) }
         ensures extent { SameFiles (extent self.old) (extent self.new) }
-        ensures images { SameImages (leaves self.old (time self.old)) (leaves self.new (time self.new)) }
-        ensures time { Elapses (time self.old) (time self.new) (leaves self.old) (leaves self.new) }
-        ensures called { OnOk result (calls self.new ≡ with_call (call_at (time self.old) file (Read at (length out.old)) true) (calls self.old)) }
-        ensures told { told self.old (Read at (length out.old)) (is_ok result) self.new }
-        ensures tried { OnErr result ((calls self.new ≡ calls self.old) ⊎ (calls self.new ≡ with_call (call_at (time self.old) file (Read at (length out.old)) false) (calls self.old))) }
+        ensures images { SameImages (may_leave self.old (time self.old))
+            (may_leave self.new (time self.new)) }
+        ensures time { Elapses (time self.old) (time self.new) (may_leave self.old) (may_leave self.new) }
+        ensures called { OnOk result (calls self.new ≡ with_call
+            (call_at (time self.old) file (Read at (length out.old)) true) (calls self.old)) }
+        ensures reason { reason self.old (Read at (length out.old)) (is_ok result) self.new }
+        ensures tried { OnErr result ((calls self.new ≡ calls self.old)
+            ⊎ (calls self.new ≡ with_call (call_at (time self.old) file (Read at (length out.old)) false)
+            (calls self.old))) }
+        ensures ended { LAST_MOMENT ≤ time self.old → IsErr result }
         ensures cause { HasCause (faults self.old) (faults self.new) result };
 
-    /// Writes over what is there, and past the end. Fails where the range would end past 2^62.
+    /// Writes over what is there, and past the end. Fails where the range would end past [`MOST_BYTES`].
     fn write_at(&mut self, file: FileId, at: u64, bytes: &[u8]) -> Result<(), Failed>
         requires { at ≤ extent self.old file }
-        ensures written { OnOk result (content self.new file ≡ option_map (overlaid at bytes.now) (content self.old file)) }
-        ensures grown { OnOk result (extent self.new file ≡ max (extent self.old file) (at + length bytes.now)) }
+        ensures written { OnOk result (content self.new file ≡ option_map (overlaid at bytes.now)
+            (content self.old file)) }
+        ensures grown { OnOk result (extent self.new file ≡ max (extent self.old file)
+            (at + length bytes.now)) }
         ensures no_shorter { extent self.old file ≤ extent self.new file }
         ensures no_longer { extent self.new file ≤ max (extent self.old file) (at + length bytes.now) }
-        ensures too_far { 2 ^ 62 < at + length bytes.now → IsErr result × SameFiles (content self.old) (content self.new) × SameFiles (extent self.old) (extent self.new) × SameImages (leaves self.old (time self.old)) (leaves self.new (time self.new)) }
-        ensures crash { Follows (TornWrite at (length bytes.now)) (leaves self.old (time self.old) file) (leaves self.new (time self.new) file) }
-        ensures torn { OnOk result (Allows (TornWrite at (length bytes.now)) (leaves self.old (time self.old) file) (leaves self.new (time self.new) file)) }
-        ensures not_done { (c : List ℕ) → leaves self.old (time self.old) file c → leaves self.new (time self.new) file c }
+        ensures too_far { MOST_BYTES < at + length bytes.now → IsErr result
+            × SameFiles (content self.old) (content self.new)
+            × SameFiles (extent self.old) (extent self.new)
+            × SameImages (may_leave self.old (time self.old)) (may_leave self.new (time self.new)) }
+        ensures crash { Follows (TornWrite at (length bytes.now) (extent self.old file))
+            (may_leave self.old (time self.old) file) (may_leave self.new (time self.new) file) }
+        ensures torn { OnOk result (Allows (TornWrite at (length bytes.now) (extent self.old file))
+            (may_leave self.old (time self.old) file) (may_leave self.new (time self.new) file)) }
+        ensures not_done { (c : List ℕ) → may_leave self.old (time self.old) file c →
+            may_leave self.new (time self.new) file c }
         ensures other_content { content self.new (other file) ≡ content self.old (other file) }
         ensures other_extent { extent self.new (other file) ≡ extent self.old (other file) }
-        ensures other_images { (c : List ℕ) → leaves self.new (time self.new) (other file) c ↔ leaves self.old (time self.old) (other file) c }
-        ensures time { Elapses (time self.old) (time self.new) (leaves self.old) (leaves self.new) }
-        ensures called { OnOk result (calls self.new ≡ with_call (call_at (time self.old) file (Write at bytes.now) true) (calls self.old)) }
-        ensures told { told self.old (Write at bytes.now) (is_ok result) self.new }
-        ensures tried { OnErr result ((calls self.new ≡ with_call (call_at (time self.old) file (Write at bytes.now) false) (calls self.old)) ⊎ ((calls self.new ≡ calls self.old) × SameFiles (content self.old) (content self.new) × SameImages (leaves self.old (time self.old)) (leaves self.new (time self.new)))) }
+        ensures other_images { (c : List ℕ) → may_leave self.new (time self.new) (other file) c
+            ↔ may_leave self.old (time self.old) (other file) c }
+        ensures time { Elapses (time self.old) (time self.new) (may_leave self.old) (may_leave self.new) }
+        ensures called { OnOk result (calls self.new ≡ with_call
+            (call_at (time self.old) file (Write at bytes.now) true) (calls self.old)) }
+        ensures reason { reason self.old (Write at bytes.now) (is_ok result) self.new }
+        ensures tried { OnErr result ((calls self.new ≡ with_call
+            (call_at (time self.old) file (Write at bytes.now) false) (calls self.old))
+            ⊎ ((calls self.new ≡ calls self.old) × SameFiles (content self.old) (content self.new)
+            × SameImages (may_leave self.old (time self.old)) (may_leave self.new (time self.new)))) }
+        ensures ended { LAST_MOMENT ≤ time self.old → IsErr result }
         ensures cause { HasCause (faults self.old) (faults self.new) result };
 
     /// Cuts a file to a length.
@@ -105,39 +127,56 @@ pub trait Disk {
         ensures shrunk { OnOk result (extent self.new file ≡ len) }
         ensures no_shorter { len ≤ extent self.new file }
         ensures no_longer { extent self.new file ≤ extent self.old file }
-        ensures crash { Follows (TornCut len) (leaves self.old (time self.old) file) (leaves self.new (time self.new) file) }
-        ensures torn { OnOk result (Allows (TornCut len) (leaves self.old (time self.old) file) (leaves self.new (time self.new) file)) }
-        ensures not_done { (c : List ℕ) → leaves self.old (time self.old) file c → leaves self.new (time self.new) file c }
+        ensures crash { Follows (TornCut len) (may_leave self.old (time self.old) file)
+            (may_leave self.new (time self.new) file) }
+        ensures torn { OnOk result (Allows (TornCut len) (may_leave self.old (time self.old) file)
+            (may_leave self.new (time self.new) file)) }
+        ensures not_done { (c : List ℕ) → may_leave self.old (time self.old) file c →
+            may_leave self.new (time self.new) file c }
         ensures other_content { content self.new (other file) ≡ content self.old (other file) }
         ensures other_extent { extent self.new (other file) ≡ extent self.old (other file) }
-        ensures other_images { (c : List ℕ) → leaves self.new (time self.new) (other file) c ↔ leaves self.old (time self.old) (other file) c }
-        ensures time { Elapses (time self.old) (time self.new) (leaves self.old) (leaves self.new) }
-        ensures called { OnOk result (calls self.new ≡ with_call (call_at (time self.old) file (Cut len) true) (calls self.old)) }
-        ensures told { told self.old (Cut len) (is_ok result) self.new }
-        ensures tried { OnErr result ((calls self.new ≡ with_call (call_at (time self.old) file (Cut len) false) (calls self.old)) ⊎ ((calls self.new ≡ calls self.old) × SameFiles (content self.old) (content self.new) × SameImages (leaves self.old (time self.old)) (leaves self.new (time self.new)))) }
+        ensures other_images { (c : List ℕ) → may_leave self.new (time self.new) (other file) c
+            ↔ may_leave self.old (time self.old) (other file) c }
+        ensures time { Elapses (time self.old) (time self.new) (may_leave self.old) (may_leave self.new) }
+        ensures called { OnOk result (calls self.new ≡ with_call
+            (call_at (time self.old) file (Cut len) true) (calls self.old)) }
+        ensures reason { reason self.old (Cut len) (is_ok result) self.new }
+        ensures tried { OnErr result ((calls self.new ≡ with_call
+            (call_at (time self.old) file (Cut len) false) (calls self.old))
+            ⊎ ((calls self.new ≡ calls self.old) × SameFiles (content self.old) (content self.new)
+            × SameImages (may_leave self.old (time self.old)) (may_leave self.new (time self.new)))) }
+        ensures ended { LAST_MOMENT ≤ time self.old → IsErr result }
         ensures cause { HasCause (faults self.old) (faults self.new) result };
 
     /// After it, a crash leaves of that file what a read gives.
     fn sync(&mut self, file: FileId) -> Result<(), Failed>
-        ensures durable { OnOk result ((c : List ℕ) → leaves self.new (time self.new) file c → content self.new file ≡ Some c) }
+        ensures durable { OnOk result ((c : List ℕ) → may_leave self.new (time self.new) file c →
+            content self.new file ≡ Some c) }
         ensures content { SameFiles (content self.old) (content self.new) }
         ensures extent { SameFiles (extent self.old) (extent self.new) }
-        ensures crash { (c : List ℕ) → leaves self.new (time self.new) file c → leaves self.old (time self.old) file c }
-        ensures other_images { (c : List ℕ) → leaves self.new (time self.new) (other file) c ↔ leaves self.old (time self.old) (other file) c }
-        ensures time { Elapses (time self.old) (time self.new) (leaves self.old) (leaves self.new) }
-        ensures called { OnOk result (calls self.new ≡ with_call (call_at (time self.old) file Sync true) (calls self.old)) }
-        ensures told { told self.old Sync (is_ok result) self.new }
-        ensures tried { OnErr result ((calls self.new ≡ with_call (call_at (time self.old) file Sync false) (calls self.old)) ⊎ ((calls self.new ≡ calls self.old) × SameImages (leaves self.old (time self.old)) (leaves self.new (time self.new)))) }
+        ensures crash { (c : List ℕ) → may_leave self.new (time self.new) file c →
+            may_leave self.old (time self.old) file c }
+        ensures other_images { (c : List ℕ) → may_leave self.new (time self.new) (other file) c
+            ↔ may_leave self.old (time self.old) (other file) c }
+        ensures time { Elapses (time self.old) (time self.new) (may_leave self.old) (may_leave self.new) }
+        ensures called { OnOk result (calls self.new ≡ with_call (call_at (time self.old) file Sync true)
+            (calls self.old)) }
+        ensures reason { reason self.old Sync (is_ok result) self.new }
+        ensures tried { OnErr result ((calls self.new ≡ with_call (call_at (time self.old) file Sync false)
+            (calls self.old)) ⊎ ((calls self.new ≡ calls self.old)
+            × SameImages (may_leave self.old (time self.old)) (may_leave self.new (time self.new)))) }
+        ensures ended { LAST_MOMENT ≤ time self.old → IsErr result }
         ensures cause { HasCause (faults self.old) (faults self.new) result };
 
-    /// The number of calls of the four kinds above begun so far, but never more than 2^62.
+    /// The number of calls of the four kinds above begun so far, but never more than [`LAST_MOMENT`].
     fn moment(&self) -> u64
-        ensures counted { result ≡ time self.now }
-        ensures bound { result ≤ 2 ^ 62 };
+        ensures with_fault { result ≡ time self.now }
+        ensures bound { result ≤ LAST_MOMENT };
 
     /// The content as it reads has the told length.
     ghost content_length: { (d : Self) (f : FileId) → IfSome (content d f) (λ bytes. length bytes ≡ extent d f) };
 
     /// The content as it reads is one of the images.
-    ghost content_left: { (d : Self) (f : FileId) (bytes : List ℕ) → content d f ≡ Some bytes → leaves d (time d) f bytes };
+    ghost content_left: { (d : Self) (f : FileId) (bytes : List ℕ) → content d f ≡ Some bytes →
+        may_leave d (time d) f bytes };
 }

@@ -1,5 +1,7 @@
-// Why a call of a disk in memory failed, and how often.
+//! Why a call of a disk in memory failed, and how often.
 ghost use Rattle.std.specs.Prelude.{◌≡◌};
+
+use dk_fault::next_count;
 
 /// How often calls have failed, by their cause. A count stands still at its last value.
 #[derive(Clone, Copy, Debug, Drop)]
@@ -23,8 +25,8 @@ pub enum Fault {
 }
 
 impl Faults {
-    ghost use Rattle.dk_device.specs.Memory.{counted, total};
-    ghost use Rattle.dk_device.specs.Causes.{Rose};
+    ghost use Rattle.dk_device.specs.Memory.{with_fault, total};
+    ghost use Rattle.dk_fault.specs.Causes.{Rose};
 
     pub(crate) fn none() -> Faults
         ensures { total result ≡ 0 }
@@ -38,14 +40,14 @@ impl Faults {
     }
 
     pub(crate) fn count(&mut self, fault: Fault)
-        ensures counted { self.new ≡ counted fault self.old }
+        ensures with_fault { self.new ≡ with_fault fault self.old }
         ensures rose { Rose (total self.old) (total self.new) }
     {
         match fault {
-            Fault::Listed => self.listed = self.listed.saturating_add(1),
-            Fault::Refused => self.refused = self.refused.saturating_add(1),
-            Fault::Ended => self.ended = self.ended.saturating_add(1),
-            Fault::Passing => self.passing = self.passing.saturating_add(1),
+            Fault::Listed => self.listed = next_count(self.listed),
+            Fault::Refused => self.refused = next_count(self.refused),
+            Fault::Ended => self.ended = next_count(self.ended),
+            Fault::Passing => self.passing = next_count(self.passing),
         }
     }
 }

@@ -1,4 +1,4 @@
-// A file in memory, which keeps what it held at first.
+//! A file in memory, which keeps what it held at first.
 ghost use Rattle.std.specs.Prelude.{◌≡◌, ◌≤◌, length, take, nat_lt, IfOk, OnOk, OnErr};
 ghost use Rattle.std.specs.List.{filter};
 
@@ -55,7 +55,8 @@ impl MemoryFile {
         moment: u64,
         choice: Choice,
     ) -> Result<Vec<u8>, OutOfMemory>
-        ensures { IfOk result (λ image. image.items ≡ image_after choice file self.now.start self.now.start (filter (λ call. nat_lt call.moment moment) calls.now)) }
+        ensures { IfOk result (λ image. image.items ≡ image_after choice file self.now.start self.now.start
+            (filter (λ call. nat_lt call.moment moment) calls.now)) }
     {
         let alloc = *self.start.allocator();
         replay(alloc, self.start.as_slice(), calls, file, moment, choice)

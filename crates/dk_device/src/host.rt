@@ -1,14 +1,11 @@
-// A disk over two real files.
+//! A disk over two real files.
 ghost use Rattle.std.specs.Prelude.{◌≡◌, ◌≤◌, ◌+◌, ◌<◌, ◌-◌, ◌^◌, length, min, max, None, IfOk, OnErr, IsErr, IsOk, true, false, refl};
 
 use crate::host_file::HostFile;
-use crate::{Disk, Failed, FileId};
+use crate::{Disk, FileId, LAST_MOMENT, MOST_BYTES};
+use dk_fault::{Failed, next_count};
 use std::alloc::AllocError as OutOfMemory;
 use std::marker::Model;
-
-const LAST_MOMENT: u64 = 1 << 62;
-
-const MOST_BYTES: u64 = 1 << 62;
 
 #[derive(Drop)]
 struct HostFiles {
@@ -28,12 +25,18 @@ impl Model for HostDisk {
     ghost use Rattle.std.specs.Prelude.{◌≤◌, ◌^◌};
     ghost use Rattle.dk_device.specs.Host.{HostState};
     ghost use Rattle.dk_device.specs.HostFiles.{main_len, wal_len};
+    ghost use Rattle.dk_device.specs.declared.device.TheConstants.{LAST_MOMENT};
 
     ghost Value = { HostState };
 
-    ghost view = { λ d. record { main = main_len d.files; wal = wal_len d.files; moment = d.moment; faults = d.faults } };
+    ghost view = { λ d. record {
+      main = main_len d.files;
+      wal = wal_len d.files;
+      moment = d.moment;
+      faults = d.faults;
+    } };
 
-    ghost invariant = { λ d. d.moment ≤ 2 ^ 62 };
+    ghost invariant = { λ d. d.moment ≤ LAST_MOMENT };
 }
 
 fn open_both(rt: &HostRuntime, main: &str, wal: &str) -> Option<HostFiles> {
@@ -56,11 +59,15 @@ impl HostFiles {
     }
 
     fn write(&mut self, file: FileId, at: u64, bytes: &[u8]) -> bool
-        requires { at + length bytes.now ≤ 2 ^ 62 }
+        requires { at + length bytes.now ≤ MOST_BYTES }
         ensures no_shorter { of_file file self.old.main.len self.old.wal.len ≤ of_file file self.new.main.len self.new.wal.len }
-        ensures no_longer { of_file file self.new.main.len self.new.wal.len ≤ max (of_file file self.old.main.len self.old.wal.len) (at + length bytes.now) }
-        ensures grown { result ≡ true → of_file file self.new.main.len self.new.wal.len ≡ max (of_file file self.old.main.len self.old.wal.len) (at + length bytes.now) }
-        ensures other { of_file (other file) self.new.main.len self.new.wal.len ≡ of_file (other file) self.old.main.len self.old.wal.len }
+        ensures no_longer { of_file file self.new.main.len self.new.wal.len ≤ max
+            (of_file file self.old.main.len self.old.wal.len) (at + length bytes.now) }
+        ensures grown { result ≡ true →
+            of_file file self.new.main.len self.new.wal.len ≡ max
+            (of_file file self.old.main.len self.old.wal.len) (at + length bytes.now) }
+        ensures other { of_file (other file) self.new.main.len self.new.wal.len ≡ of_file
+            (other file) self.old.main.len self.old.wal.len }
     {
         match file {
             FileId::Main => self.main.write(at, bytes),
@@ -73,7 +80,8 @@ impl HostFiles {
         ensures no_shorter { len ≤ of_file file self.new.main.len self.new.wal.len }
         ensures no_longer { of_file file self.new.main.len self.new.wal.len ≤ of_file file self.old.main.len self.old.wal.len }
         ensures cut { result ≡ true → of_file file self.new.main.len self.new.wal.len ≡ len }
-        ensures other { of_file (other file) self.new.main.len self.new.wal.len ≡ of_file (other file) self.old.main.len self.old.wal.len }
+        ensures other { of_file (other file) self.new.main.len self.new.wal.len ≡ of_file
+            (other file) self.old.main.len self.old.wal.len }
     {
         match file {
             FileId::Main => self.main.cut(len),
@@ -84,7 +92,7 @@ impl HostFiles {
 
 impl HostDisk {
     ghost use Rattle.dk_device.specs.declared.device.FileId.{FileId};
-    ghost use Rattle.dk_device.specs.Causes.{HasCause, Rose};
+    ghost use Rattle.dk_fault.specs.Causes.{HasCause, Rose};
     ghost use Rattle.dk_device.specs.Disk.{of_file, other, next_moment};
 
     /// The file at a path and its log, whose name has `.wal` added. A file that is missing is made.
@@ -102,6 +110,8 @@ impl HostDisk {
 
     /// Begins a call: false at the last moment.
     fn begin(&mut self) -> bool
+        ensures ended { LAST_MOMENT ≤ self.old.moment → result ≡ false }
+        ensures bound { self.old.moment ≤ LAST_MOMENT }
         ensures moment { self.new.moment ≡ next_moment self.old.moment }
         ensures main { self.new.main ≡ self.old.main }
         ensures wal { self.new.wal ≡ self.old.wal }
@@ -126,16 +136,20 @@ impl HostDisk {
         if done {
             return Ok(());
         }
-        self.faults = self.faults.saturating_add(1);
+        self.faults = next_count(self.faults);
         Err(Failed)
     }
 
     fn write(&mut self, file: FileId, at: u64, bytes: &[u8]) -> bool
-        requires { at + length bytes.now ≤ 2 ^ 62 }
+        requires { at + length bytes.now ≤ MOST_BYTES }
         ensures no_shorter { of_file file self.old.main self.old.wal ≤ of_file file self.new.main self.new.wal }
-        ensures no_longer { of_file file self.new.main self.new.wal ≤ max (of_file file self.old.main self.old.wal) (at + length bytes.now) }
-        ensures grown { result ≡ true → of_file file self.new.main self.new.wal ≡ max (of_file file self.old.main self.old.wal) (at + length bytes.now) }
-        ensures other { of_file (other file) self.new.main self.new.wal ≡ of_file (other file) self.old.main self.old.wal }
+        ensures no_longer { of_file file self.new.main self.new.wal ≤ max
+            (of_file file self.old.main self.old.wal) (at + length bytes.now) }
+        ensures grown { result ≡ true →
+            of_file file self.new.main self.new.wal ≡ max (of_file file self.old.main self.old.wal)
+            (at + length bytes.now) }
+        ensures other { of_file (other file) self.new.main self.new.wal ≡ of_file
+            (other file) self.old.main self.old.wal }
         ensures moment { self.new.moment ≡ self.old.moment }
         ensures faults { self.new.faults ≡ self.old.faults }
     {
@@ -150,7 +164,8 @@ impl HostDisk {
         ensures no_shorter { len ≤ of_file file self.new.main self.new.wal }
         ensures no_longer { of_file file self.new.main self.new.wal ≤ of_file file self.old.main self.old.wal }
         ensures cut { result ≡ true → of_file file self.new.main self.new.wal ≡ len }
-        ensures other { of_file (other file) self.new.main self.new.wal ≡ of_file (other file) self.old.main self.old.wal }
+        ensures other { of_file (other file) self.new.main self.new.wal ≡ of_file
+            (other file) self.old.main self.old.wal }
         ensures moment { self.new.moment ≡ self.old.moment }
         ensures faults { self.new.faults ≡ self.old.faults }
     {
@@ -171,13 +186,13 @@ impl Disk for HostDisk {
 
     ghost time = { λ d. d.moment };
 
-    ghost leaves = { λ d k f c. ⊥ };
+    ghost may_leave = { λ d k f c. ⊥ };
 
     ghost calls = { λ d. None };
 
     ghost faults = { λ d. d.faults };
 
-    ghost told = { λ old handed done new. Unit {0} };
+    ghost reason = { λ old request done new. Unit {0} };
 
     ghost content_length = { λ d f. tt };
 

@@ -1,4 +1,4 @@
-// A real file, with the length that it has.
+//! A real file, with the length that it has.
 ghost use Rattle.std.specs.Prelude.{◌≡◌, ◌≤◌, ◌+◌, ◌<◌, ◌^◌, length, max, IsTrue, true, false};
 
 use std::fs;
@@ -45,17 +45,21 @@ impl HostFile {
         false
     }
 
+    /// Cuts the file. A cut that fails leaves the length that the file then has.
     pub(crate) fn cut(&mut self, len: u64) -> bool
         requires { len ≤ self.old.len }
         ensures no_shorter { len ≤ self.new.len }
         ensures no_longer { self.new.len ≤ self.old.len }
         ensures cut { result ≡ true → self.new.len ≡ len }
     {
-        let done = self.file.set_len(len).is_ok();
-        if done {
+        if self.file.set_len(len).is_ok() {
             self.len = len;
+            return true;
         }
-        done
+        if let Ok(found) = self.file.metadata() {
+            self.len = found.len().max(len).min(self.len);
+        }
+        false
     }
 
     pub(crate) fn sync(&self) -> bool {

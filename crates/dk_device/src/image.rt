@@ -1,13 +1,13 @@
-// What a crash may leave of a file in memory, by a choice of the unsynced writes.
+//! What a crash may leave of a file in memory, by a choice of the unsynced writes.
 ghost use Rattle.std.specs.Prelude.{◌≡◌, nat_lt, IfOk, OnOk, true, length, take, replicate};
-ghost use Rattle.dk_device.specs.declared.calls.Handed.TheVariants.{Write};
+ghost use Rattle.dk_device.specs.declared.calls.Request.TheVariants.{Write};
 ghost use Rattle.std.specs.List.{filter};
-ghost use Rattle.dk_device.specs.Replay.{effect, done_by, made_by, if_same};
+ghost use Rattle.dk_device.specs.Replay.{effect, effect_if, effect_on, if_same};
 ghost use Rattle.dk_device.specs.Image.{written_by, cut_by, image_by, image_if, image_after};
 
 use crate::FileId;
 use crate::bytes::overwrite;
-use crate::calls::{DiskCall, Handed};
+use crate::calls::{DiskCall, Request};
 use std::alloc::{AllocError as OutOfMemory, Global};
 
 /// What is left of the writes and cuts since the last sync.
@@ -36,7 +36,8 @@ impl Replayed {
         at: usize,
         bytes: &[u8],
     ) -> Result<(), OutOfMemory>
-        ensures bytes { OnOk result (self.new.bytes.items ≡ effect (Write at bytes.now) self.old.bytes.items) }
+        ensures bytes { OnOk result (self.new.bytes.items ≡ effect
+            (Write at bytes.now) self.old.bytes.items) }
         ensures image { OnOk result (self.new.image.items ≡ written_by choice at bytes.now self.old.image.items) }
     {
         overwrite(&mut self.bytes, at, bytes)?;
@@ -62,17 +63,17 @@ impl Replayed {
     }
 
     /// Does what a call asks for.
-    fn apply(&mut self, alloc: Global, choice: Choice, handed: &Handed) -> Result<(), OutOfMemory>
-        ensures bytes { OnOk result (self.new.bytes.items ≡ effect handed.now self.old.bytes.items) }
-        ensures image { OnOk result (self.new.image.items ≡ image_by choice handed.now self.old.bytes.items self.old.image.items) }
+    fn apply(&mut self, alloc: Global, choice: Choice, request: &Request) -> Result<(), OutOfMemory>
+        ensures bytes { OnOk result (self.new.bytes.items ≡ effect request.now self.old.bytes.items) }
+        ensures image { OnOk result (self.new.image.items ≡ image_by choice request.now self.old.bytes.items self.old.image.items) }
     {
-        match handed {
-            Handed::Read { .. } => {}
-            Handed::Write { at, bytes } => {
+        match request {
+            Request::Read { .. } => {}
+            Request::Write { at, bytes } => {
                 self.write(alloc, choice, *at as usize, bytes.as_slice())?;
             }
-            Handed::Cut { len } => self.cut(choice, *len as usize),
-            Handed::Sync => self.image = self.bytes.to_vec(alloc)?,
+            Request::Cut { len } => self.cut(choice, *len as usize),
+            Request::Sync => self.image = self.bytes.to_vec(alloc)?,
         }
         Ok(())
     }
@@ -85,11 +86,12 @@ impl Replayed {
         file: FileId,
         call: &DiskCall,
     ) -> Result<(), OutOfMemory>
-        ensures bytes { OnOk result (self.new.bytes.items ≡ made_by call.now.done file call.now.file call.now.handed self.old.bytes.items) }
-        ensures image { OnOk result (self.new.image.items ≡ if_same file call.now.file (image_if call.now.done choice call.now.handed self.old.bytes.items self.old.image.items) self.old.image.items) }
+        ensures bytes { OnOk result (self.new.bytes.items ≡ effect_on call.now.done file call.now.file call.now.request self.old.bytes.items) }
+        ensures image { OnOk result (self.new.image.items ≡ if_same file call.now.file
+            (image_if call.now.done choice call.now.request self.old.bytes.items self.old.image.items) self.old.image.items) }
     {
         if call.done && call.file == file {
-            self.apply(alloc, choice, &call.handed)?;
+            self.apply(alloc, choice, &call.request)?;
         }
         Ok(())
     }
@@ -104,7 +106,8 @@ pub(crate) fn replay(
     moment: u64,
     choice: Choice,
 ) -> Result<Vec<u8>, OutOfMemory>
-    ensures { IfOk result (λ image. image.items ≡ image_after choice file start.now start.now (filter (λ call. nat_lt call.moment moment) calls.now)) }
+    ensures { IfOk result (λ image. image.items ≡ image_after choice file start.now start.now
+        (filter (λ call. nat_lt call.moment moment) calls.now)) }
 {
     let mut replayed = Replayed {
         bytes: start.to_vec(alloc)?,

@@ -1,10 +1,13 @@
 //! The disk that the store stands on: two files, the calls that read and change them, and what a crash may leave.
 //!
-//! `Disk` says of each call what it does to the content and to each image that a crash now may leave, and that the
+//! [`Disk`] says of each call what it does to the content and to each image that a crash now may leave, and that the
 //! images of earlier moments stay what they were. Between two syncs of a file each written range and the part past an
-//! old end may hold any bytes, and a cut may or may not have happened; after a sync a crash leaves what a read gives.
-//! `MemoryDisk` keeps its calls and meets this in both directions, and gives images for tests. `HostDisk` stands over
-//! two real files, of which it tells lengths and faults alone. Stands on std.
+//! old end may hold any bytes, and of a file that was cut any front is left that is no shorter than the new length;
+//! after a sync a crash leaves what a read gives. [`write_synced`] and [`cut_synced`] are a change and its sync, with
+//! what a crash at each moment inside may leave.
+//!
+//! [`MemoryDisk`] keeps its calls and meets this in both directions, and gives images for tests. [`HostDisk`] stands
+//! over two real files, of which it knows lengths and faults alone. Stands on std, the count of faults and `thiserror`.
 #![tactic(auto)]
 
 mod bytes;
@@ -17,11 +20,14 @@ mod host;
 mod host_file;
 mod image;
 mod memory;
+mod synced;
 #[cfg(test)]
 mod tests;
 
-pub use calls::{DiskCall, Handed, Written};
-pub use device::{Disk, DiskFault, Failed, FileId};
+pub use calls::{DiskCall, Request, Written};
+pub use device::{Disk, DiskFault, FileId, LAST_MOMENT, MOST_BYTES};
+pub use dk_fault::Failed;
 pub use host::HostDisk;
 pub use image::Choice;
 pub use memory::MemoryDisk;
+pub use synced::{cut_synced, write_synced};

@@ -1,16 +1,15 @@
-// A disk in memory, which fails at listed moments and tells what a crash may leave.
+//! A disk in memory, which fails at listed moments and tells what a crash may leave.
 ghost use Rattle.std.specs.Prelude.{◌≡◌, ◌⊎◌, ◌≤◌, ◌<◌, ◌+◌, ◌^◌, ◌∷◌, ◌++◌, [], length, take, drop, true, false, is_ok, is_none, OnOk, OnErr, IfOk, IfNone, Some, vec_len, vec_capacity, refl};
 ghost use Rattle.std.specs.List.{list_any};
 
-use crate::calls::{DiskCall, Handed, Written};
+use crate::calls::{DiskCall, Request, Written};
 use crate::change::attempt_at;
 use crate::faults::{Fault, Faults};
 use crate::file::MemoryFile;
-use crate::{Choice, Disk, Failed, FileId};
+use crate::{Choice, Disk, FileId, LAST_MOMENT};
+use dk_fault::Failed;
 use std::alloc::{AllocError as OutOfMemory, Global};
 use std::marker::Model;
-
-const LAST_MOMENT: u64 = 1 << 62;
 
 /// A disk in memory. A call at one of the listed moments fails with nothing done. It keeps each call,
 /// but those that find no memory for that.
@@ -29,7 +28,11 @@ impl Model for MemoryDisk {
 
     ghost Value = { MemoryState };
 
-    ghost view = { λ d. record { history = record { main = d.main.start; wal = d.wal.start; calls = d.calls.items; moment = d.moment }; failing = d.failing.items; faults = d.faults } };
+    ghost view = { λ d. record {
+      history = record { main = d.main.start; wal = d.wal.start; calls = d.calls.items; moment = d.moment };
+      failing = d.failing.items;
+      faults = d.faults;
+    } };
 
     ghost invariant = { λ d. Stands d.main d.wal d.calls.items d.moment };
 }
@@ -45,19 +48,22 @@ fn note(calls: &mut Vec<DiskCall>, call: DiskCall)
 }
 
 impl MemoryDisk {
-    ghost use Rattle.dk_device.specs.declared.calls.Handed.TheVariants.{Read, Write, Cut, Sync};
+    ghost use Rattle.dk_device.specs.declared.calls.Request.TheVariants.{Read, Write, Cut, Sync};
     ghost use Rattle.dk_device.specs.declared.faults.Fault.TheVariants.{Listed, Refused, Ended, Passing};
-    ghost use Rattle.dk_device.specs.Causes.{Rose, HasCause};
-    ghost use Rattle.dk_device.specs.Replay.{called, unlisted, content_of, left_of};
+    ghost use Rattle.dk_fault.specs.Causes.{Rose, HasCause};
+    ghost use Rattle.dk_device.specs.Changes.{IsSynced};
+    ghost use Rattle.dk_device.specs.declared.device.FileId.{FileId};
+    ghost use Rattle.dk_device.specs.Replay.{after_call, after_unlisted_call, content_of, MayLeaveAt};
     ghost use Rattle.dk_device.specs.Image.{image_of};
     ghost use Rattle.dk_device.specs.declared.device.FileId.TheVariants.{Main, Wal};
-    ghost use Rattle.dk_device.specs.Memory.{IsInTime, Went, Told, counted, total};
+    ghost use Rattle.dk_device.specs.Memory.{IsInTime, Performs, Reason, with_fault, total};
 
     /// A disk that holds these bytes, and fails at the listed moments.
     pub fn new(main: Vec<u8>, wal: Vec<u8>, failing: Vec<u64>) -> MemoryDisk
         ensures history { result.history ≡ record { main = main.items; wal = wal.items; calls = []; moment = 0 } }
         ensures failing { result.failing ≡ failing.items }
         ensures faults { total result.faults ≡ 0 }
+        ensures synced { (f : FileId) → IsSynced ⟦<MemoryDisk as Disk>⟧ result f }
     {
         let alloc = *main.allocator();
         MemoryDisk {
@@ -80,9 +86,11 @@ impl MemoryDisk {
     /// One image of a crash just before the call of that number.
     pub fn image_at(&self, moment: u64, choice: Choice) -> Result<(Vec<u8>, Vec<u8>), OutOfMemory>
         requires { moment ≤ self.now.history.moment }
-        ensures chosen { IfOk result (λ image. (image.0.items ≡ image_of self.now.history moment choice Main) × (image.1.items ≡ image_of self.now.history moment choice Wal)) }
-        ensures main { IfOk result (λ image. left_of self.now.history moment Main image.0.items) }
-        ensures wal { IfOk result (λ image. left_of self.now.history moment Wal image.1.items) }
+        ensures chosen { IfOk result (λ image.
+            (image.0.items ≡ image_of self.now.history moment choice Main)
+            × (image.1.items ≡ image_of self.now.history moment choice Wal)) }
+        ensures main { IfOk result (λ image. MayLeaveAt self.now.history moment Main image.0.items) }
+        ensures wal { IfOk result (λ image. MayLeaveAt self.now.history moment Wal image.1.items) }
     {
         let calls = self.calls.as_slice();
         let main = self.main.image(calls, FileId::Main, moment, choice)?;
@@ -92,13 +100,13 @@ impl MemoryDisk {
 
     /// Begins a call that leaves nothing in the list and fails.
     fn fail(&mut self, fault: Fault) -> Failed
-        ensures history { self.new.history ≡ unlisted self.old.history }
+        ensures history { self.new.history ≡ after_unlisted_call self.old.history }
         ensures failing { self.new.failing ≡ self.old.failing }
-        ensures faults { self.new.faults ≡ counted fault self.old.faults }
+        ensures faults { self.new.faults ≡ with_fault fault self.old.faults }
         ensures rose { Rose (total self.old.faults) (total self.new.faults) }
         ensures in_time { IsInTime self.old.history.moment self.old.history.calls }
-        ensures bound { self.old.history.moment ≤ 2 ^ 62 }
-        ensures later { self.new.history.moment ≤ 2 ^ 62 }
+        ensures bound { self.old.history.moment ≤ LAST_MOMENT }
+        ensures later { self.new.history.moment ≤ LAST_MOMENT }
     {
         self.moment = (self.moment + 1).min(LAST_MOMENT);
         self.faults.count(fault);
@@ -106,10 +114,10 @@ impl MemoryDisk {
     }
 
     /// Begins a call, and does it unless it is to fail.
-    fn perform(&mut self, file: FileId, handed: Handed) -> Result<(), Failed>
-        ensures went { Went file handed result self.old.history self.new.history }
+    fn perform(&mut self, file: FileId, request: Request) -> Result<(), Failed>
+        ensures went { Performs file request result self.old.history self.new.history }
         ensures failing { self.new.failing ≡ self.old.failing }
-        ensures told { Told self.old handed (is_ok result) self.new }
+        ensures reason { Reason self.old request (is_ok result) self.new }
         ensures cause { HasCause (total self.old.faults) (total self.new.faults) result }
     {
         let now = self.moment;
@@ -125,14 +133,14 @@ impl MemoryDisk {
             file,
             self.failing.as_slice(),
             now,
-            &handed,
+            &request,
         );
         note(
             &mut self.calls,
             DiskCall {
                 moment: now,
                 file,
-                handed,
+                request,
                 done: fault.is_none(),
             },
         );
@@ -147,26 +155,26 @@ impl MemoryDisk {
     }
 
     /// Begins a read.
-    fn look(&mut self, file: FileId, at: u64, len: u64) -> Result<(), Failed>
+    fn begin_read(&mut self, file: FileId, at: u64, len: u64) -> Result<(), Failed>
         ensures same { content_of self.new.history file ≡ content_of self.old.history file }
-        ensures went { Went file (Read at len) result self.old.history self.new.history }
+        ensures went { Performs file (Read at len) result self.old.history self.new.history }
         ensures failing { self.new.failing ≡ self.old.failing }
-        ensures told { Told self.old (Read at len) (is_ok result) self.new }
+        ensures reason { Reason self.old (Read at len) (is_ok result) self.new }
         ensures cause { HasCause (total self.old.faults) (total self.new.faults) result }
     {
-        self.perform(file, Handed::Read { at, len })
+        self.perform(file, Request::Read { at, len })
     }
 
     /// Begins a write, with a copy of the bytes for the list.
     fn write(&mut self, file: FileId, at: u64, bytes: &[u8]) -> Result<(), Failed>
-        ensures went { Went file (Write at bytes.now) result self.old.history self.new.history }
+        ensures went { Performs file (Write at bytes.now) result self.old.history self.new.history }
         ensures failing { self.new.failing ≡ self.old.failing }
-        ensures told { Told self.old (Write at bytes.now) (is_ok result) self.new }
+        ensures reason { Reason self.old (Write at bytes.now) (is_ok result) self.new }
         ensures cause { HasCause (total self.old.faults) (total self.new.faults) result }
     {
         let alloc = *self.failing.allocator();
         match Written::copy_of(alloc, bytes) {
-            Ok(bytes) => self.perform(file, Handed::Write { at, bytes }),
+            Ok(bytes) => self.perform(file, Request::Write { at, bytes }),
             Err(_) => Err(self.fail(Fault::Refused)),
         }
     }
@@ -182,9 +190,9 @@ impl MemoryDisk {
 }
 
 impl Disk for MemoryDisk {
-    ghost use Rattle.dk_device.specs.Memory.{Told, total};
-    ghost use Rattle.dk_device.specs.Replay.{content_of, left_of};
-    ghost use Rattle.dk_device.specs.Left.{content_told_left};
+    ghost use Rattle.dk_device.specs.Memory.{Reason, total};
+    ghost use Rattle.dk_device.specs.Replay.{content_of, MayLeaveAt};
+    ghost use Rattle.dk_device.specs.ContentIsImage.{content_told_left};
 
     ghost extent = { λ d f. length (content_of d.history f) };
 
@@ -192,13 +200,13 @@ impl Disk for MemoryDisk {
 
     ghost time = { λ d. d.history.moment };
 
-    ghost leaves = { λ d k f c. left_of d.history k f c };
+    ghost may_leave = { λ d k f c. MayLeaveAt d.history k f c };
 
     ghost calls = { λ d. Some d.history.calls };
 
     ghost faults = { λ d. total d.faults };
 
-    ghost told = { Told };
+    ghost reason = { Reason };
 
     ghost content_length = { λ d f. refl };
 
@@ -209,7 +217,7 @@ impl Disk for MemoryDisk {
     }
 
     fn read_at(&mut self, file: FileId, at: u64, out: &mut [u8]) -> Result<(), Failed> {
-        self.look(file, at, out.len() as u64)?;
+        self.begin_read(file, at, out.len() as u64)?;
         let from = &self.bytes_of(file)[at as usize..];
         out.copy_from_slice(&from[..out.len()]);
         Ok(())
@@ -220,11 +228,11 @@ impl Disk for MemoryDisk {
     }
 
     fn cut(&mut self, file: FileId, len: u64) -> Result<(), Failed> {
-        self.perform(file, Handed::Cut { len })
+        self.perform(file, Request::Cut { len })
     }
 
     fn sync(&mut self, file: FileId) -> Result<(), Failed> {
-        self.perform(file, Handed::Sync)
+        self.perform(file, Request::Sync)
     }
 
     fn moment(&self) -> u64 {
@@ -255,8 +263,11 @@ mod tests {
     #[test]
     fn a_disk_at_its_last_moment_fails(rt: HostRuntime) -> Result<(), Fail> {
         let mut disk = empty(rt.alloc(), LAST_MOMENT);
+        assert!(rt; disk.read_at(FileId::Main, 0, &mut []).is_err());
+        assert!(rt; disk.write_at(FileId::Main, 0, b"").is_err());
+        assert!(rt; disk.cut(FileId::Main, 0).is_err());
         assert!(rt; disk.sync(FileId::Wal).is_err());
-        assert_eq!(rt; (disk.moment, disk.faults.ended), (LAST_MOMENT, 1));
+        assert_eq!(rt; (disk.moment, disk.faults.ended), (LAST_MOMENT, 4));
         Ok(())
     }
 

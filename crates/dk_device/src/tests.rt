@@ -1,4 +1,5 @@
-use crate::{Choice, Disk, Failed, FileId, HostDisk, MemoryDisk};
+//! What the calls leave, of disks in memory and of real files.
+use crate::{Choice, Disk, Failed, FileId, HostDisk, MemoryDisk, cut_synced};
 use std::alloc::{AllocError, Global};
 use std::fs;
 use std::process::Abort;
@@ -20,6 +21,14 @@ fn cut<D: Disk>(disk: &mut D, len: u64) -> Result<(), Failed> {
         return Err(Failed);
     }
     disk.cut(FileId::Main, len)
+}
+
+/// Cuts Main to two bytes and syncs it.
+fn cut_front<D: Disk>(disk: &mut D) -> Result<(), Failed> {
+    if disk.len(FileId::Main) < 2 {
+        return Err(Failed);
+    }
+    cut_synced(disk, FileId::Main, 2)
 }
 
 fn sync<D: Disk>(disk: &mut D) -> Result<(), Failed> {
@@ -85,6 +94,39 @@ fn a_crash_leaves_images_by_choice(rt: HostRuntime) -> Result<(), Fail> {
     check_image(&rt, &disk, 3, Choice::Lost, b"aXYd")?;
     check_image(&rt, &disk, 4, Choice::Kept, b"aXYdZ")?;
     check_image(&rt, &disk, 4, torn, b"aXYd-")?;
+    Ok(())
+}
+
+/// The images before a cut, behind it, and behind a write that lengthens the file again.
+fn check_cut(
+    rt: &impl Abort,
+    disk: &MemoryDisk,
+    choice: Choice,
+    mains: (&[u8], &[u8], &[u8]),
+) -> Result<(), AllocError> {
+    check_image(rt, disk, 0, choice, mains.0)?;
+    check_image(rt, disk, 1, choice, mains.1)?;
+    check_image(rt, disk, 2, choice, mains.2)
+}
+
+#[test]
+fn a_cut_leaves_a_front(rt: HostRuntime) -> Result<(), Fail> {
+    let mut disk = disk_of(rt.alloc(), b"abcdef", &[])?;
+    cut(&mut disk, 2)?;
+    write(&mut disk, FileId::Main, 2, b"XYZ")?;
+    check_cut(&rt, &disk, Choice::Kept, (b"abcdef", b"ab", b"abXYZ"))?;
+    check_cut(&rt, &disk, Choice::Lost, (b"abcdef", b"abcdef", b"abcdef"))?;
+    let torn = Choice::Torn { byte: b'-' };
+    check_cut(&rt, &disk, torn, (b"abcdef", b"ab", b"ab---"))?;
+    Ok(())
+}
+
+#[test]
+fn a_synced_cut_leaves_its_front(rt: HostRuntime) -> Result<(), Fail> {
+    let mut disk = disk_of(rt.alloc(), b"abcdef", &[])?;
+    cut_front(&mut disk)?;
+    check_cut(&rt, &disk, Choice::Kept, (b"abcdef", b"ab", b"ab"))?;
+    check_cut(&rt, &disk, Choice::Lost, (b"abcdef", b"abcdef", b"ab"))?;
     Ok(())
 }
 

@@ -6,59 +6,66 @@ use Rattle.dk_bytes.specs.Checksum.{checksum_of}
 use Rattle.dk_types.specs.declared.damage.Damage.{Damage}
 use Rattle.dk_types.specs.declared.damage.Damage.TheVariants.{HeaderSum, NoGate, SameIteration, Malformed}
 use Rattle.dk_types.specs.declared.damage.Part.TheVariants.{Header}
+use Rattle.dk_header.specs.declared.header.TheConstants.{MAGIC, MOST_ITERATIONS}
 use Rattle.dk_header.specs.declared.header.Current.{Current}
 use Rattle.dk_header.specs.declared.header.DbHeader.{DbHeader}
 use Rattle.dk_header.specs.declared.header.MainFault.{MainFault}
 use Rattle.dk_header.specs.declared.header.MainFault.TheVariants.{NotADatabase, Malformed as MainMalformed}
 
 -- the checksum of bytes, and then these
-abbrev pub framed : List ℕ → List ℕ
-framed bytes = to_le_bytes w64 (checksum_of bytes) ++ bytes
+abbrev pub with_checksum : List ℕ → List ℕ
+with_checksum bytes = to_le_bytes w64 (checksum_of bytes) ++ bytes
 
 -- the magic, the version, and zeros
 abbrev pub main_bytes : ℕ → List ℕ
-main_bytes version = framed (to_le_bytes w32 0x4B435544 ++ (to_le_bytes w64 version ++ replicate 4076 0))
+main_bytes version = with_checksum (to_le_bytes w32 MAGIC ++ (to_le_bytes w64 version ++ replicate 4076 0))
 
 -- the iteration, the root, the number of blocks, and zeros
 abbrev pub body_bytes : DbHeader → List ℕ
-body_bytes header = framed (to_le_bytes w64 header.iteration ++ (to_le_bytes w64 header.root ++ (to_le_bytes w64 header.blocks ++ replicate 4063 0)))
+body_bytes header = with_checksum
+    (to_le_bytes w64 header.iteration ++
+    (to_le_bytes w64 header.root ++ (to_le_bytes w64 header.blocks ++ replicate 4063 0)))
 
 -- the number of eight bytes at a place
 abbrev pub number_at : ℕ → List ℕ → ℕ
 number_at at bytes = from_le_bytes w64 (drop at bytes)
 
-abbrev pub moved : ℕ → Option ℕ → Option ℕ
-moved from None = None
-moved from (Some place) = Some (from + place)
+abbrev pub place_behind : ℕ → Option ℕ → Option ℕ
+place_behind from None = None
+place_behind from (Some place) = Some (from + place)
 
 -- the place of the first byte from a place on that isn't zero
 abbrev pub first_nonzero : ℕ → List ℕ → Option ℕ
-first_nonzero from bytes = moved from (position (λ b. not (b == 0)) (drop from bytes))
+first_nonzero from bytes = place_behind from (position (λ b. not (b == 0)) (drop from bytes))
 
 -- whether the checksum in front of bytes is theirs
 abbrev pub sum_matches : List ℕ → Bool
 sum_matches bytes = number_at 0 bytes == checksum_of (drop 8 bytes)
 
+-- the version that a main header names
+abbrev pub version_at : List ℕ → ℕ
+version_at bytes = number_at 12 bytes
+
 -- the version of a main header, or what is wrong with it
 abbrev pub main_read : List ℕ → Result ℕ MainFault
 main_read bytes =
-    if sum_matches bytes && (from_le_bytes w32 (drop 8 bytes) == 0x4B435544)
-    then elim (first_nonzero 20 bytes) [ None ↦ Ok (number_at 12 bytes) | Some at ↦ Err (MainMalformed at) ]
+    if sum_matches bytes && (from_le_bytes w32 (drop 8 bytes) == MAGIC)
+    then elim (first_nonzero 20 bytes) [ None ↦ Ok (version_at bytes) | Some at ↦ Err (MainMalformed at) ]
     else Err NotADatabase
 
 abbrev pub iteration_fits : ℕ → Bool
-iteration_fits iteration = not (iteration == 0) && nat_le iteration (2 ^ 62)
+iteration_fits iteration = not (iteration == 0) && nat_le iteration MOST_ITERATIONS
 
--- what the body of a twin's header says, or what is wrong with it
+-- what the body of a twin's header says, or what is wrong with it, whose place counts from behind the checksum
 abbrev pub body_read : ℕ → List ℕ → Result DbHeader Damage
 body_read twin body =
     if sum_matches body
     then (if iteration_fits (number_at 8 body)
-    then elim (first_nonzero 32 body) [
+    then elim (first_nonzero 24 (drop 8 body)) [
       | None ↦ Ok record { iteration = number_at 8 body; root = number_at 16 body; blocks = number_at 24 body }
       | Some at ↦ Err (Malformed Header at)
     ]
-    else Err (Malformed Header 8))
+    else Err (Malformed Header 0))
     else Err (HeaderSum twin (number_at 0 body) (checksum_of (drop 8 body)))
 
 -- what a twin's header says where its gate is open

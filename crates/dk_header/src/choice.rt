@@ -1,4 +1,4 @@
-// Which of the two database headers is current.
+//! Which of the two database headers is current.
 ghost use Rattle.std.specs.Prelude.{◌≡◌};
 ghost use Rattle.dk_header.specs.Layout.{higher_of, current_of, choice_of};
 

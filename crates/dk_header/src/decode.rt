@@ -1,9 +1,9 @@
-// The headers read.
-ghost use Rattle.std.specs.Prelude.{◌≡◌, ◌+◌, ◌≤◌, ◌<◌, ◌==◌, not, length, drop, IfSome};
+//! The headers read.
+ghost use Rattle.std.specs.Prelude.{◌≡◌, ◌+◌, ◌≤◌, ◌<◌, ◌==◌, not, ℕ, Ok, length, drop, IfSome};
 ghost use Rattle.std.specs.List.{position};
 ghost use Rattle.std.specs.Int.{w32, w64, from_le_bytes};
 ghost use Rattle.dk_bytes.specs.Checksum.{checksum_of};
-ghost use Rattle.dk_header.specs.Layout.{number_at, first_nonzero, main_read, body_read, twin_read};
+ghost use Rattle.dk_header.specs.Layout.{number_at, version_at, first_nonzero, main_read, body_read, twin_read};
 
 use crate::header::{DbHeader, MAGIC, MOST_ITERATIONS, MainFault};
 use dk_bytes::checksum;
@@ -56,6 +56,14 @@ fn sum_behind(bytes: &[u8]) -> u64
     checksum(rest)
 }
 
+/// The version that a main header names, whatever its other bytes are.
+pub fn version_of(bytes: &[u8; 4096]) -> u64
+    ensures version { result ≡ version_at bytes.now }
+    ensures read { (version : ℕ) → main_read bytes.now ≡ Ok version → result ≡ version }
+{
+    word_at(bytes, 12)
+}
+
 /// The version of a main header.
 pub fn read_main(bytes: &[u8; 4096]) -> Result<u64, MainFault>
     ensures { result ≡ main_read bytes.now }
@@ -65,11 +73,11 @@ pub fn read_main(bytes: &[u8; 4096]) -> Result<u64, MainFault>
     }
     match nonzero_from(bytes, 20) {
         Some(at) => Err(MainFault::Malformed { at }),
-        None => Ok(word_at(bytes, 12)),
+        None => Ok(version_of(bytes)),
     }
 }
 
-/// A database header without its gate.
+/// A database header without its gate. A place in it counts from behind its checksum.
 fn read_body(twin: u8, body: &[u8]) -> Result<DbHeader, Damage>
     requires { 32 ≤ length body.now }
     ensures { result ≡ body_read twin body.now }
@@ -87,10 +95,11 @@ fn read_body(twin: u8, body: &[u8]) -> Result<DbHeader, Damage>
     if iteration == 0 || iteration > MOST_ITERATIONS {
         return Err(Damage::Malformed {
             part: Part::Header,
-            at: 8,
+            at: 0,
         });
     }
-    match nonzero_from(body, 32) {
+    let (_, string) = body.split_at(8);
+    match nonzero_from(string, 24) {
         Some(at) => Err(Damage::Malformed {
             part: Part::Header,
             at,

@@ -1,7 +1,7 @@
-// The bytes of the headers.
+//! The bytes of the headers.
 ghost use Rattle.std.specs.Prelude.{◌≡◌, ◌≤◌, ◌++◌, ℕ, Ok, true, length, drop};
 ghost use Rattle.std.specs.Int.{w32, w64, to_le_bytes};
-ghost use Rattle.dk_header.specs.Layout.{framed, main_bytes, body_bytes, main_read, body_read, iteration_fits};
+ghost use Rattle.dk_header.specs.Layout.{with_checksum, main_bytes, body_bytes, main_read, body_read, iteration_fits};
 
 use crate::header::{DbHeader, MAGIC};
 use dk_bytes::checksum;
@@ -19,14 +19,15 @@ fn main_fields(fields: &mut [u8], version: u64)
 
 fn frame_main(bytes: &mut [u8], version: u64)
     requires { 20 ≤ length bytes.old }
-    ensures { bytes.new ≡ framed (to_le_bytes w32 MAGIC ++ (to_le_bytes w64 version ++ drop 8 (drop 4 (drop 8 bytes.old)))) }
+    ensures { bytes.new ≡ with_checksum
+        (to_le_bytes w32 MAGIC ++ (to_le_bytes w64 version ++ drop 8 (drop 4 (drop 8 bytes.old)))) }
 {
     let (sum, fields) = bytes.split_at_mut(8);
     main_fields(fields, version);
     sum.copy_from_slice(&checksum(fields).to_le_bytes());
 }
 
-fn framed_main(version: u64) -> [u8; 4096]
+fn make_main(version: u64) -> [u8; 4096]
     ensures { result ≡ main_bytes version }
 {
     let mut bytes = [0; 4096];
@@ -39,13 +40,15 @@ pub fn main_header(version: u64) -> [u8; 4096]
     ensures layout { result ≡ main_bytes version }
     ensures again { main_read result ≡ Ok version }
 {
-    framed_main(version)
+    make_main(version)
 }
 
 /// The fields behind a database header's checksum.
 fn body_fields(fields: &mut [u8], header: &DbHeader)
     requires { 24 ≤ length fields.old }
-    ensures { fields.new ≡ to_le_bytes w64 header.now.iteration ++ (to_le_bytes w64 header.now.root ++ (to_le_bytes w64 header.now.blocks ++ drop 8 (drop 8 (drop 8 fields.old)))) }
+    ensures { fields.new ≡ to_le_bytes w64 header.now.iteration ++
+        (to_le_bytes w64 header.now.root ++
+        (to_le_bytes w64 header.now.blocks ++ drop 8 (drop 8 (drop 8 fields.old)))) }
 {
     let (iteration, rest) = fields.split_at_mut(8);
     let (root, rest) = rest.split_at_mut(8);
@@ -57,14 +60,17 @@ fn body_fields(fields: &mut [u8], header: &DbHeader)
 
 fn frame_body(bytes: &mut [u8], header: &DbHeader)
     requires { 32 ≤ length bytes.old }
-    ensures { bytes.new ≡ framed (to_le_bytes w64 header.now.iteration ++ (to_le_bytes w64 header.now.root ++ (to_le_bytes w64 header.now.blocks ++ drop 8 (drop 8 (drop 8 (drop 8 bytes.old)))))) }
+    ensures { bytes.new ≡ with_checksum
+        (to_le_bytes w64 header.now.iteration ++
+        (to_le_bytes w64 header.now.root ++
+        (to_le_bytes w64 header.now.blocks ++ drop 8 (drop 8 (drop 8 (drop 8 bytes.old)))))) }
 {
     let (sum, fields) = bytes.split_at_mut(8);
     body_fields(fields, header);
     sum.copy_from_slice(&checksum(fields).to_le_bytes());
 }
 
-fn framed_body(header: &DbHeader) -> [u8; 4095]
+fn make_body(header: &DbHeader) -> [u8; 4095]
     ensures { result ≡ body_bytes header.now }
 {
     let mut bytes = [0; 4095];
@@ -75,9 +81,10 @@ fn framed_body(header: &DbHeader) -> [u8; 4095]
 /// The same of the fields one by one.
 fn body_with(iteration: u64, root: u64, blocks: u64) -> [u8; 4095]
     ensures layout { result ≡ body_bytes record { iteration = iteration; root = root; blocks = blocks } }
-    ensures again { iteration_fits iteration ≡ true → (twin : ℕ) → body_read twin result ≡ Ok record { iteration = iteration; root = root; blocks = blocks } }
+    ensures again { iteration_fits iteration ≡ true → (twin : ℕ) →
+        body_read twin result ≡ Ok record { iteration = iteration; root = root; blocks = blocks } }
 {
-    framed_body(&DbHeader {
+    make_body(&DbHeader {
         iteration,
         root,
         blocks,
@@ -87,7 +94,8 @@ fn body_with(iteration: u64, root: u64, blocks: u64) -> [u8; 4095]
 /// A database header without its gate.
 pub fn body_of(header: &DbHeader) -> [u8; 4095]
     ensures layout { result ≡ body_bytes header.now }
-    ensures again { iteration_fits header.now.iteration ≡ true → (twin : ℕ) → body_read twin result ≡ Ok header.now }
+    ensures again { iteration_fits header.now.iteration ≡ true → (twin : ℕ) →
+        body_read twin result ≡ Ok header.now }
 {
     body_with(header.iteration, header.root, header.blocks)
 }

@@ -1,14 +1,20 @@
-// What the headers say.
+//! What the headers say.
 use thiserror::Error;
 
 /// The magic `DUCK`, as a number with the least byte first.
 pub const MAGIC: u32 = 0x4B43_5544;
 
+/// The storage version of the main file.
+pub const VERSION: u64 = 1001;
+
+/// The root of a database without tables.
+pub const NO_ROOT: u64 = u64::MAX;
+
 /// The greatest iteration.
 pub const MOST_ITERATIONS: u64 = 1 << 62;
 
-/// A database header: how often the database was checkpointed, the first block of its tree or 2^64 - 1 where it has
-/// no tables, and its number of blocks.
+/// A database header: how often the database was checkpointed, the first block of its tree or [`NO_ROOT`] where it
+/// has no tables, and its number of blocks.
 #[derive(Clone, Copy, Debug, PartialEq, Eq, Drop)]
 pub struct DbHeader {
     pub iteration: u64,

@@ -1,6 +1,9 @@
+//! Which header is chosen, and where a damaged byte is found.
 ghost use Rattle.std.specs.Prelude.{◌<◌, ◌≤◌};
 
-use crate::{DbHeader, MainFault, body_of, choose, main_header, read_main};
+use crate::{
+    DbHeader, MainFault, VERSION, body_of, choose, log_header, main_header, read_main, version_of,
+};
 use dk_bytes::checksum;
 use dk_types::{Damage, Part};
 use std::process::Abort;
@@ -40,13 +43,13 @@ fn the_open_twin_with_the_higher_iteration_is_chosen(rt: HostRuntime) {
     check(&rt, &two, &two, Err(Damage::SameIteration { iteration: 2 }));
     let none = Damage::Malformed {
         part: Part::Header,
-        at: 8,
+        at: 0,
     };
     check(&rt, &one, &open_header(0, 1), Err(none));
 }
 
-/// Whether a bit of the body, changed, is told as a wrong checksum.
-fn is_told(good: &[u8; 4096], place: usize, bit: u8) -> bool
+/// Whether a bit of the body, changed, is found as a wrong checksum.
+fn is_found(good: &[u8; 4096], place: usize, bit: u8) -> bool
     requires place { place < 4095 }
     requires bit { bit < 8 }
 {
@@ -59,16 +62,16 @@ fn is_told(good: &[u8; 4096], place: usize, bit: u8) -> bool
 }
 
 #[test]
-fn each_changed_bit_is_told(rt: HostRuntime) {
+fn each_changed_bit_is_found(rt: HostRuntime) {
     let good = open_header(5, 1);
     for place in 0..4095 {
         for bit in 0..8 {
-            assert!(rt; is_told(&good, place, bit));
+            assert!(rt; is_found(&good, place, bit));
         }
     }
 }
 
-/// Whether a body with one byte more that isn't zero, and its checksum, is told with the byte's place.
+/// Whether a body with one byte more that isn't zero, and its checksum, is refused at the byte's place.
 fn is_malformed(place: usize) -> bool
     requires fields { 32 ≤ place }
     requires body { place < 4095 }
@@ -83,13 +86,13 @@ fn is_malformed(place: usize) -> bool
                 part: Part::Header,
                 at,
             },
-        ) => at == place as u64,
+        ) => at == place as u64 - 8,
         _ => false,
     }
 }
 
 #[test]
-fn each_byte_of_a_body_that_must_be_zero_is_told(rt: HostRuntime) {
+fn each_byte_of_a_body_that_must_be_zero_is_found(rt: HostRuntime) {
     for place in 32..4095 {
         assert!(rt; is_malformed(place));
     }
@@ -100,7 +103,7 @@ fn is_malformed_main(place: usize) -> bool
     requires fields { 20 ≤ place }
     requires header { place < 4096 }
 {
-    let mut bytes = main_header(1001);
+    let mut bytes = main_header(VERSION);
     bytes[place] = 1;
     let sum = checksum(&bytes[8..]).to_le_bytes();
     bytes[..8].copy_from_slice(&sum);
@@ -108,7 +111,7 @@ fn is_malformed_main(place: usize) -> bool
 }
 
 #[test]
-fn each_byte_of_the_main_header_that_must_be_zero_is_told(rt: HostRuntime) {
+fn each_byte_of_the_main_header_that_must_be_zero_is_found(rt: HostRuntime) {
     for place in 20..4096 {
         assert!(rt; is_malformed_main(place));
     }
@@ -116,12 +119,22 @@ fn each_byte_of_the_main_header_that_must_be_zero_is_told(rt: HostRuntime) {
 
 #[test]
 fn the_main_header_is_read(rt: HostRuntime) {
-    let mut bytes = main_header(1001);
-    assert_eq!(rt; read_main(&bytes), Ok(1001));
+    let mut bytes = main_header(VERSION);
+    assert_eq!(rt; read_main(&bytes), Ok(VERSION));
     assert_eq!(rt;
         (bytes[8], bytes[11], bytes[12], bytes[13]),
         (b'D', b'K', 0xe9, 3)
     );
     bytes[100] = 1;
     assert_eq!(rt; read_main(&bytes), Err(MainFault::NotADatabase));
+    assert_eq!(rt; version_of(&bytes), VERSION);
+}
+
+#[test]
+fn the_header_of_the_log_has_its_fields_and_their_sum(rt: HostRuntime) {
+    let bytes = log_header(3);
+    let sum = checksum(b"DKLOG001\x03\0\0\0\0\0\0\0").to_le_bytes();
+    assert_eq!(rt; &bytes[..8], b"DKLOG001".as_slice());
+    assert_eq!(rt; &bytes[8..16], [3, 0, 0, 0, 0, 0, 0, 0].as_slice());
+    assert_eq!(rt; &bytes[16..], sum.as_slice());
 }

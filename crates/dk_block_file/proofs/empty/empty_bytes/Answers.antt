@@ -1,3 +1,4 @@
+-- The three headers in their order.
 use Rattle.std.proofs.Common.{◌≡◌, ◌++◌, ◌∷◌, [], replicate, List, ℕ, IfOk, subst}
 use Rattle.dk_header.specs.Layout.{main_bytes}
 use Rattle.dk_block_file.proofs.empty.empty_bytes.Goals as goal

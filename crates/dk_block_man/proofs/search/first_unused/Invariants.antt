@@ -1,3 +1,4 @@
+-- All flags up to here are set.
 use Rattle.std.proofs.Common.{length, ◌-◌}
 use Rattle.dk_block_man.specs.Used.{AllUsed}
 use Rattle.dk_block_man.proofs.search.first_unused.Given as goal

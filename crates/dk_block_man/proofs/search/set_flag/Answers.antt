@@ -1,5 +1,6 @@
+-- A flag that is set, within or at the end, adds its block.
 use Rattle.std.proofs.Common.{Bool, List, ap, ◌∙◌, arith}
-use Rattle.dk_block_man.proofs.Marks.{set_of, push_of}
+use Rattle.dk_block_man.proofs.UsedLemmas.{set_of, push_of}
 use Rattle.dk_block_man.specs.Used.{used_of}
 use Rattle.dk_block_man.proofs.search.set_flag.Goals as goal
 

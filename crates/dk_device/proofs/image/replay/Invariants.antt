@@ -1,3 +1,4 @@
+-- The calls that are left make of what was replayed what all make of the start.
 use Rattle.std.proofs.Common.{◌≡◌, drop, nat_lt}
 use Rattle.std.specs.List.{filter}
 use Rattle.dk_device.specs.Image.{image_after}

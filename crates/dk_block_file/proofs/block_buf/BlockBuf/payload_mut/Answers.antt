@@ -1,16 +1,18 @@
-use Rattle.std.proofs.Common.{◌≡◌, refl, ap, ◌∙◌, arith, List, ℕ, ◌-◌, drop, length, length-drop}
+-- What is lent stands behind the checksum.
+use Rattle.std.proofs.Common.{◌≡◌, refl, ap, ◌∙◌, arith, List, ℕ, drop, length, length-drop}
 use Rattle.dk_block_file.specs.Lending.{with_payload}
-use Rattle.dk_block_file.proofs.Ranges.{with_lent, rest_is}
+use Rattle.dk_block_file.proofs.RangeLemmas.{with_lent, rest_is}
 use Rattle.dk_block_file.proofs.block_buf.BlockBuf.payload_mut.Goals as goal
+use Rattle.dk_block_file.specs.declared.layout.TheConstants.{BLOCK_BYTES, PAYLOAD_BYTES}
 
 pub returns : goal.returns
 returns c =
     let items : List ℕ = c.self.inside.bytes.items in
     let n : ℕ = c.self.inside.bytes.len in
     let all : n ≡ length items = c.self.inside.bytes.ok.0 in
-    let whole : length items ≡ 262144 = c.self.invariant in
+    let whole : length items ≡ BLOCK_BYTES = c.self.invariant in
     let value : c.slice_mut.result.now ≡ drop 8 items = c.slice_mut.ensures.value ∙ rest_is 8 n items all in
-    let left : length (drop 8 items) ≡ 262136 = omega (arith, length-drop 8 items) in (
+    let left : length (drop 8 items) ≡ PAYLOAD_BYTES = omega (arith, length-drop 8 items) in (
       (refl, λ w. with_lent n items w all whole ∙ ap (λ (l : List ℕ). with_payload l w) c.self.view_is),
       record {
         lends = tt;

@@ -1,6 +1,7 @@
+-- A block is used where its flag is set.
 use Rattle.std.proofs.Common.{ap, arith}
 use Rattle.dk_block_man.specs.Used.{Blocks}
-use Rattle.dk_block_man.proofs.Marks.{read_is, else_is}
+use Rattle.dk_block_man.proofs.UsedLemmas.{read_is, else_is}
 use Rattle.dk_block_man.proofs.block_man.BlockMan.is_used.Goals as goal
 
 pub returns-then-place-len : goal.returns-then-place-len

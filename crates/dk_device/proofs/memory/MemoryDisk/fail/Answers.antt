@@ -1,5 +1,6 @@
+-- A call that leaves nothing in the list moves time alone.
 use Rattle.std.proofs.Common.{arith}
-use Rattle.dk_device.proofs.OneMore.{stands_later}
+use Rattle.dk_device.proofs.ReplayLemmas.{stands_later}
 use Rattle.dk_device.proofs.memory.MemoryDisk.fail.Goals as goal
 
 pub invariant_of-self : goal.invariant_of-self

@@ -1,8 +1,9 @@
+-- The image that was replayed is one that a crash may leave.
 use Rattle.std.proofs.Common.{◌≡◌, subst, refl}
 use Rattle.dk_device.specs.declared.device.FileId.TheVariants.{Main, Wal}
 use Rattle.dk_device.specs.Image.{image_of}
 use Rattle.dk_device.specs.Memory.{MemoryState}
-use Rattle.dk_device.proofs.Chosen.{chosen_is, is_left}
+use Rattle.dk_device.proofs.ImageLemmas.{chosen_is, is_left}
 use Rattle.dk_device.proofs.memory.MemoryDisk.image_at.Goals as goal
 
 pub returns-clause-chosen : goal.returns-clause-chosen

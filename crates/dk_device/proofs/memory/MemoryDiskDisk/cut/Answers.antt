@@ -1,7 +1,9 @@
+-- What a cut of a disk in memory does to its two files.
 use Rattle.std.proofs.Common.{Some, ap, ◌∙◌, length}
 use Rattle.std.proofs.lemmas.List.{length-take-le}
 use Rattle.dk_device.specs.Disk.{TornCut}
-use Rattle.dk_device.proofs.Outcome.{done_content, on_ok, cut_length, crashes, allowed, stays, not_cut, other_same, other_left, elapses}
+use Rattle.dk_device.proofs.ChangeLemmas.{cut_same}
+use Rattle.dk_device.proofs.OutcomeLemmas.{done_content, on_ok, cut_length, crashes, allowed, stays, other_same, other_left, elapses}
 use Rattle.dk_device.proofs.memory.MemoryDiskDisk.cut.Goals as goal
 
 pub returns-clause-cut : goal.returns-clause-cut
@@ -17,13 +19,13 @@ pub returns-clause-no_longer : goal.returns-clause-no_longer
 returns-clause-no_longer c = (cut_length _ _ _ _ _ c.perform.ensures.went c.requires).1
 
 pub returns-clause-crash : goal.returns-clause-crash
-returns-clause-crash c = crashes (TornCut c.args.len) _ _ _ _ _ c.perform.ensures.went (λ d c' torn. torn) (not_cut c.args.len)
+returns-clause-crash c = crashes (TornCut c.args.len) _ _ _ _ _ c.perform.ensures.went (λ d c' torn. torn) (cut_same c.args.len)
 
 pub returns-clause-torn : goal.returns-clause-torn
 returns-clause-torn c = allowed _ _ _ _ _ c.perform.ensures.went
 
 pub returns-clause-not_done : goal.returns-clause-not_done
-returns-clause-not_done c = stays _ _ _ _ _ c.perform.ensures.went (not_cut c.args.len)
+returns-clause-not_done c = stays _ _ _ _ _ c.perform.ensures.went (cut_same c.args.len)
 
 pub returns-clause-other_content : goal.returns-clause-other_content
 returns-clause-other_content c = ap Some (other_same _ _ _ _ _ c.perform.ensures.went)

@@ -1,4 +1,5 @@
-use Rattle.dk_device.proofs.Outcome.{sync_content, sync_durable, sync_left, other_left, same_told, same_length, elapses}
+-- What a sync of a disk in memory leaves to a crash.
+use Rattle.dk_device.proofs.OutcomeLemmas.{sync_content, sync_durable, sync_left, other_left, same_told, same_length, elapses}
 use Rattle.dk_device.proofs.memory.MemoryDiskDisk.sync.Goals as goal
 
 pub returns-clause-durable : goal.returns-clause-durable

@@ -1,6 +1,9 @@
+-- What a write of a disk in memory does to its two files.
 use Rattle.std.proofs.Common.{Some, ap, ◌∙◌, length}
 use Rattle.dk_device.specs.Disk.{TornWrite}
-use Rattle.dk_device.proofs.Outcome.{done_content, on_ok, write_length, grown, crashes, allowed, stays, not_torn, too_far, other_same, other_left, elapses}
+use Rattle.dk_device.specs.Replay.{content_of}
+use Rattle.dk_device.proofs.ChangeLemmas.{torn_same}
+use Rattle.dk_device.proofs.OutcomeLemmas.{done_content, on_ok, write_length, grown, crashes, allowed, stays, too_far, other_same, other_left, elapses}
 use Rattle.dk_device.proofs.memory.MemoryDiskDisk.write_at.Goals as goal
 
 pub returns-clause-written : goal.returns-clause-written
@@ -16,16 +19,16 @@ pub returns-clause-no_longer : goal.returns-clause-no_longer
 returns-clause-no_longer c = (write_length _ _ _ _ _ _ c.write.ensures.went c.requires).1
 
 pub returns-clause-too_far : goal.returns-clause-too_far
-returns-clause-too_far c = too_far _ _ _ _ c.args.self.now c.write.new.self c.write.ensures.went c.write.ensures.told
+returns-clause-too_far c = too_far _ _ _ _ c.args.self.now c.write.new.self c.write.ensures.went c.write.ensures.reason
 
 pub returns-clause-crash : goal.returns-clause-crash
-returns-clause-crash c = crashes (TornWrite c.args.at (length c.args.bytes.now)) _ _ _ _ _ c.write.ensures.went (λ d c' torn. torn) (not_torn c.args.at (length c.args.bytes.now))
+returns-clause-crash c = crashes (TornWrite c.args.at (length c.args.bytes.now) (length (content_of c.args.self.now.history c.args.file))) _ _ _ _ _ c.write.ensures.went (λ d c' torn. torn) (torn_same c.args.at (length c.args.bytes.now) (length (content_of c.args.self.now.history c.args.file)))
 
 pub returns-clause-torn : goal.returns-clause-torn
 returns-clause-torn c = allowed _ _ _ _ _ c.write.ensures.went
 
 pub returns-clause-not_done : goal.returns-clause-not_done
-returns-clause-not_done c = stays _ _ _ _ _ c.write.ensures.went (not_torn c.args.at (length c.args.bytes.now))
+returns-clause-not_done c = stays _ _ _ _ _ c.write.ensures.went (torn_same c.args.at (length c.args.bytes.now) (length (content_of c.args.self.now.history c.args.file)))
 
 pub returns-clause-other_content : goal.returns-clause-other_content
 returns-clause-other_content c = ap Some (other_same _ _ _ _ _ c.write.ensures.went)

@@ -1,0 +1,86 @@
+-- The effects of the calls on blocks and headers, a record for each.
+use Rattle.std.specs.Prelude.{◌≡◌, ◌≢◌, ℕ, ◌+◌, ◌<◌, ◌≤◌, max, Bool, Result, Ok, Err, IfErr, List, take, drop, IfSome}
+use Rattle.std.proofs.Common.{option_map}
+use Rattle.dk_types.specs.declared.damage.Damage.TheVariants.{Sum}
+use Rattle.dk_fault.specs.Causes.{Rose}
+use Rattle.dk_header.specs.declared.header.TheConstants.{VERSION}
+use Rattle.dk_header.specs.declared.log.TheConstants.{LOG_HEADER_BYTES}
+use Rattle.dk_header.specs.Layout.{main_read}
+use Rattle.dk_header.specs.LogLayout.{log_header_bytes}
+use Rattle.dk_device.specs.declared.device.Disk.{Ghosts}
+use Rattle.dk_device.specs.declared.device.FileId.{FileId}
+use Rattle.dk_device.specs.declared.device.FileId.TheVariants.{Main, Wal}
+use Rattle.dk_device.specs.Calls.{Call, Did, Stopped}
+use Rattle.dk_device.specs.Changes.{images_of, IsSynced, Changes, ChangesAlone}
+use Rattle.dk_device.specs.Disk.{overlaid, TornWrite, Allows}
+use Rattle.dk_block_file.specs.declared.fault.BlockFault.{BlockFault}
+use Rattle.dk_block_file.specs.declared.fault.BlockFault.TheVariants.{DiskFault, Damaged, OutOfMemory}
+use Rattle.dk_block_file.specs.declared.layout.TheConstants.{HEADERS_BYTES, BLOCK_BYTES}
+use Rattle.dk_block_file.specs.Blocks.{blocks_in, place_of, block_at, block_read, stored_sum, payload_sum, first_header, empty_main, HasOneBlock, SameOthers}
+use Rattle.dk_block_file.specs.Current.{HasHeaders, HasCurrent, SameCurrent}
+use Rattle.dk_block_file.specs.Flips.{IsClosed, MayClose}
+
+-- the count of faults did not fall; the only refusal is a fault of the disk, and it shows there
+pub record FailsByDisk {T : Type 0} (before now : ℕ) (result : Result T BlockFault) : Type 0 where
+  pub later : before ≤ now
+  pub failed : IfErr result (λ e. (e ≡ DiskFault) × Rose before now)
+
+-- these calls of the disk were made: all of them, or up to one that failed
+pub record MakesToFault {D : Type 0} (g : Ghosts D) (calls : List Call) (old new : D)
+    (result : Result (Unit {0}) BlockFault) : Type 0 where
+  pub done : result ≢ Err DiskFault → Did calls (g.time old) (g.calls old) (g.time new) (g.calls new)
+  pub failed : result ≡ Err DiskFault → Stopped calls (g.time old) (g.calls old) (g.time new) (g.calls new)
+
+-- what the two checksums of a block that was read decide
+abbrev pub DecidedBySums : ℕ → List ℕ → Result (Unit {0}) BlockFault → Type 0
+DecidedBySums block bytes (Ok done) = stored_sum bytes ≡ payload_sum bytes
+DecidedBySums block bytes (Err DiskFault) = Unit {0}
+DecidedBySums block bytes (Err (Damaged damage)) = (damage ≡ Sum block (stored_sum bytes) (payload_sum bytes))
+    × (stored_sum bytes ≢ payload_sum bytes)
+DecidedBySums block bytes (Err OutOfMemory) = ⊥
+
+-- Main is written at a block's place with these bytes: the block reads as their payload, each other one as before
+pub record WritesBlock {D : Type 0} (g : Ghosts D) (block : ℕ) (bytes : List ℕ) (old new : D) : Type 0 where
+  pub written : g.content new Main ≡ option_map (overlaid (place_of block) bytes) (g.content old Main)
+  pub reads : IfSome (g.content new Main) (λ main. block_read block main ≡ Ok (drop 8 bytes))
+  pub others : (k : ℕ) → k < blocks_in (g.extent old Main) → k ≢ block →
+      option_map (block_at k) (g.content new Main) ≡ option_map (block_at k) (g.content old Main)
+  pub grown : g.extent new Main ≡ max (g.extent old Main) (place_of block + BLOCK_BYTES)
+  pub torn : Allows (TornWrite (place_of block) BLOCK_BYTES (g.extent old Main)) (images_of g old Main)
+      (images_of g new Main)
+
+-- all but one block stays: in each image between it is as in one at the start, and one that is the same in each
+-- stays so
+pub record KeepsOtherBlocks {D : Type 0} (g : Ghosts D) (block : ℕ) (old new : D) : Type 0 where
+  pub no_shorter : g.extent old Main ≤ g.extent new Main
+  pub no_longer : g.extent new Main ≤ max (g.extent old Main) (place_of block + BLOCK_BYTES)
+  pub images : Changes g (SameOthers block (g.extent old Main)) Main old new
+  pub one_block : (k : ℕ) → k < blocks_in (g.extent old Main) → k ≢ block → HasOneBlock k (images_of g old Main) →
+      HasOneBlock k (images_of g new Main)
+
+-- the headers stay, with what a coming flip needs of them
+pub record KeepsHeaders {D : Type 0} (g : Ghosts D) (old new : D) : Type 0 where
+  pub there : HasHeaders g new
+  pub current : Changes g SameCurrent Main old new
+  pub closes : (was_open : Bool) (twin : ℕ) → twin ≤ 1 → MayClose was_open twin (images_of g old Main) →
+      MayClose was_open twin (images_of g new Main)
+
+-- a part of a twin's header is written, by this step in what a crash may leave
+pub record WritesTwin {D : Type 0} (g : Ghosts D) (step : List ℕ → List ℕ → Type 0) (old new : D) : Type 0 where
+  pub headers : HasHeaders g new
+  pub extent : g.extent new Main ≡ g.extent old Main
+  pub alone : ChangesAlone g step Main old new
+
+-- the empty database is there, and a crash leaves nothing else: of this version, its current header in twin 0,
+-- twin 1 closed
+pub record IsCreated {D : Type 0} (g : Ghosts D) (old new : D) : Type 0 where
+  pub main : g.content new Main ≡ option_map (overlaid 0 empty_main) (g.content old Main)
+  pub empty : g.extent old Main ≡ 0 → IfSome (g.content new Main) (λ main. main ≡ empty_main)
+  pub extent : g.extent new Main ≡ max (g.extent old Main) HEADERS_BYTES
+  pub log : IfSome (g.content new Wal) (λ wal. wal ≡ log_header_bytes 1)
+  pub log_extent : g.extent new Wal ≡ LOG_HEADER_BYTES
+  pub synced : (f : FileId) → IsSynced g new f
+  pub version : (c : List ℕ) → images_of g new Main c → main_read (take 4096 c) ≡ Ok VERSION
+  pub current : HasCurrent 0 first_header (images_of g new Main)
+  pub headers : HasHeaders g new
+  pub second : IsClosed 1 (images_of g new Main)

@@ -1,5 +1,0 @@
-use Rattle.dk_device.proofs.Outcome.{read_file}
-use Rattle.dk_device.proofs.memory.MemoryDisk.look.Goals as goal
-
-pub returns-clause-same : goal.returns-clause-same
-returns-clause-same c = read_file _ _ _ _ _ _ c.perform.ensures.went
