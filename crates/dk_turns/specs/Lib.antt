@@ -1,6 +1,11 @@
-pub mod Desks
-pub mod History
+pub mod TurnStates
+pub mod Events
+pub mod PassViews
+pub mod LawfulSteps
+pub mod KnowledgeAfter
+pub mod StepOutcomes
 pub mod Rule
-pub mod Steps
-pub mod Seen
-pub mod Stays
+pub mod History
+pub mod IdlePasses
+pub mod Counters
+pub mod Tickets

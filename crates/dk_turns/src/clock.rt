@@ -1,44 +1,52 @@
 //! Events, each at its place in the one history.
 ghost use Rattle.std.specs.Prelude.{◌≡◌, ℕ, ◌<◌, ◌≤◌, ◌%◌, ◌^◌, Some};
-ghost use Rattle.dk_turns.specs.Desks.{Holds};
-ghost use Rattle.dk_turns.specs.History.{Makes, MakesFree};
-ghost use Rattle.dk_turns.specs.Seen.{MayMake};
-ghost use Rattle.dk_turns.specs.Steps.{IsIdle, IsNext, making, making_free, looking};
+ghost use Rattle.dk_turns.specs.declared.layout.TheConstants.{TURNS};
+ghost use Rattle.dk_turns.specs.KnowledgeAfter.{after_event, after_free_event, after_look};
+ghost use Rattle.dk_turns.specs.LawfulSteps.{IsLawfulEvent, IsLawfulFreeEvent, MayMakeEvent};
+ghost use Rattle.dk_turns.specs.PassViews.{IsTurnsTable};
+ghost use Rattle.dk_turns.specs.StepOutcomes.{IsIdle, IsNextPlace};
+ghost use Rattle.dk_turns.specs.TurnStates.{Holds};
 
-use crate::plays::{Look, Saying, Tick, TickFree};
-use crate::seats::{Held, Pass, Place};
+use crate::layout::CLOCK;
+use crate::pass::{Held, Pass, SeatOf};
 use crate::shared::Shared;
-use crate::turns::{Board, CLOCK, Turns};
+use crate::steps::{EventArgs, Look, Tick, TickFree};
+use crate::turns::{Board, Turns};
 use std::marker::Brand;
 
-fn tick<S: Shared, J: Saying<S::Part, S::Note>>(
+// One more event, of the part of a turn that the seat holds.
+fn tick<S: Shared, J: EventArgs<S::Part, S::Note>>(
     board: &Board<S>,
-    seat: &mut Place<S>,
+    seat: &mut SeatOf<S>,
     turn: u32,
     part: &S::Part,
     note: &S::Note,
 ) -> u64
-    requires board { board.now.table_id.words ≡ 135 }
+    requires board { IsTurnsTable board.now.table_id }
     requires seat { (seat.old.table_id ≡ board.now.table_id) × IsIdle seat.old.me }
     requires says { (J.turn ≡ turn) × (J.part ≡ Some part.now) × (J.note ≡ Some note.now) }
-    requires step { (turn < 67) × ((shown : S.Part) × Holds seat.old.me.0.sight.held turn shown × Makes S.holds S.lasts seat.old.me.0.sight turn shown note.now part.now) }
+    requires step { (turn < TURNS) × ((shown : S.Part) × Holds seat.old.me.0.knowledge.held turn shown
+        × IsLawfulEvent (S.holds board.now.key) S.lasts seat.old.me.0.knowledge turn shown note.now part.now) }
     ensures seat { (seat.new.table_id ≡ seat.old.table_id) × IsIdle seat.new.me }
-    ensures sight { (place : ℕ) × IsNext seat.old.me.0.sight result place × (seat.new.me.0.sight ≡ making turn part.now note.now place seat.old.me.0.sight) }
+    ensures knowledge { (place : ℕ) × IsNextPlace seat.old.me.0.knowledge result place
+        × (seat.new.me.0.knowledge ≡ after_event turn part.now note.now place seat.old.me.0.knowledge) }
 {
     board.fetch_add::<Tick<J>>(seat, CLOCK, 1)
 }
 
-fn tick_free<S: Shared, J: Saying<S::Part, S::Note>>(
+// One more event, which needs no turn.
+fn tick_free<S: Shared, J: EventArgs<S::Part, S::Note>>(
     board: &Board<S>,
-    seat: &mut Place<S>,
+    seat: &mut SeatOf<S>,
     note: &S::Note,
 ) -> u64
-    requires board { board.now.table_id.words ≡ 135 }
+    requires board { IsTurnsTable board.now.table_id }
     requires seat { (seat.old.table_id ≡ board.now.table_id) × IsIdle seat.old.me }
     requires says { J.note ≡ Some note.now }
-    requires step { MakesFree S.holds S.lasts seat.old.me.0.sight note.now }
+    requires step { IsLawfulFreeEvent (S.holds board.now.key) S.lasts seat.old.me.0.knowledge note.now }
     ensures seat { (seat.new.table_id ≡ seat.old.table_id) × IsIdle seat.new.me }
-    ensures sight { (place : ℕ) × IsNext seat.old.me.0.sight result place × (seat.new.me.0.sight ≡ making_free note.now place seat.old.me.0.sight) }
+    ensures knowledge { (place : ℕ) × IsNextPlace seat.old.me.0.knowledge result place
+        × (seat.new.me.0.knowledge ≡ after_free_event note.now place seat.old.me.0.knowledge) }
 {
     board.fetch_add::<TickFree<J>>(seat, CLOCK, 1)
 }
@@ -46,11 +54,12 @@ fn tick_free<S: Shared, J: Saying<S::Part, S::Note>>(
 impl<S: Shared> Turns<S> {
     /// Makes an event of the part, as it is now, and answers its place.
     pub fn event(&self, pass: &mut Pass<S>, held: &mut Held<S>, note: S::Note) -> u64
-        requires pass { pass.old.turns ≡ self.now }
-        requires step { MayMake S.holds S.lasts pass.old.sight held.old note }
+        requires pass { pass.old.turns ≡ self.now.id }
+        requires step { MayMakeEvent (S.holds self.now.key) S.lasts pass.old.knowledge held.old note }
         ensures pass { pass.new.turns ≡ pass.old.turns }
         ensures held { held.new ≡ held.old }
-        ensures made { (place : ℕ) × IsNext pass.old.sight result place × (pass.new.sight ≡ making held.old.turn held.old.part note place pass.old.sight) }
+        ensures made { (place : ℕ) × IsNextPlace pass.old.knowledge result place
+            × (pass.new.knowledge ≡ after_event held.old.turn held.old.part note place pass.old.knowledge) }
     {
         tick::<S, Brand>(
             &self.table.shared,
@@ -63,19 +72,21 @@ impl<S: Shared> Turns<S> {
 
     /// Makes an event that needs no turn, and answers its place.
     pub fn free_event(&self, pass: &mut Pass<S>, note: S::Note) -> u64
-        requires pass { pass.old.turns ≡ self.now }
-        requires step { MakesFree S.holds S.lasts pass.old.sight note }
+        requires pass { pass.old.turns ≡ self.now.id }
+        requires step { IsLawfulFreeEvent (S.holds self.now.key) S.lasts pass.old.knowledge note }
         ensures pass { pass.new.turns ≡ pass.old.turns }
-        ensures made { (place : ℕ) × IsNext pass.old.sight result place × (pass.new.sight ≡ making_free note place pass.old.sight) }
+        ensures made { (place : ℕ) × IsNextPlace pass.old.knowledge result place
+            × (pass.new.knowledge ≡ after_free_event note place pass.old.knowledge) }
     {
         tick_free::<S, Brand>(&self.table.shared, &mut pass.seat, &note)
     }
 
     /// Reads the clock. From now on all places below it count as seen.
     pub fn look(&self, pass: &mut Pass<S>) -> u64
-        requires pass { pass.old.turns ≡ self.now }
+        requires pass { pass.old.turns ≡ self.now.id }
         ensures pass { pass.new.turns ≡ pass.old.turns }
-        ensures seen { (events : ℕ) × IsNext pass.old.sight result events × (pass.new.sight ≡ looking events pass.old.sight) }
+        ensures seen { (events : ℕ) × IsNextPlace pass.old.knowledge result events
+            × (pass.new.knowledge ≡ after_look events pass.old.knowledge) }
     {
         self.table.shared.load::<Look>(&mut pass.seat, CLOCK)
     }

@@ -1,9 +1,11 @@
+//! Turns whose parts count the events made under them, by one pass, by two and by eight.
 ghost use Rattle.std.specs.Prelude.{◌≡◌, ℕ, ◌<◌, [], ◌∷◌, ◌++◌, false, length, slice_index_or, IfSome};
-ghost use Rattle.dk_turns.specs.Rule.{newcomer};
-ghost use Rattle.dk_turns.specs.Seen.{AllIdle};
-ghost use Rattle.dk_turns.specs.Stays.{Stays, IsReady};
+ghost use Rattle.dk_turns.specs.declared.layout.TheConstants.{TURNS};
+ghost use Rattle.dk_turns.specs.KnowledgeAfter.{newcomer};
+ghost use Rattle.dk_turns.specs.PassViews.{AllIdle};
+ghost use Rattle.dk_turns.specs.IdlePasses.{CanClose, StaysIdle};
 
-use crate::{Pass, Shared, Turns};
+use crate::{Pass, Shared, TURNS, Turns};
 use std::alloc::Global;
 use std::sync::Wait;
 use std::sync::atomic::{AtomicU64, Ordering};
@@ -14,13 +16,15 @@ use std::thread::{Threads, for_each_mut};
 struct Counters;
 
 impl Shared for Counters {
-    ghost use Rattle.dk_turns.specs.Stays.{AddsUp, NeverFalls};
+    ghost use Rattle.dk_turns.specs.Counters.{AddsUp, NeverFalls};
+
+    type Key = ();
 
     type Part = u64;
 
     type Note = ();
 
-    ghost holds = { AddsUp };
+    ghost holds = { λ _. AddsUp };
 
     ghost lasts = { NeverFalls };
 }
@@ -32,8 +36,8 @@ fn count<R: Wait>(
     pass: &mut Pass<Counters>,
     turn: u32,
 ) -> Option<u64>
-    requires { (pass.old.turns ≡ turns.now) × (pass.old.sight.held ≡ []) × (turn < 67) }
-    ensures { Stays pass.old pass.new }
+    requires { (pass.old.turns ≡ turns.now.id) × (pass.old.knowledge.held ≡ []) × (turn < TURNS) }
+    ensures { StaysIdle pass.old pass.new }
 {
     let mut held = turns.take(rt, pass, turn);
     let Some(next) = held.part().checked_add(1) else {
@@ -54,11 +58,13 @@ fn count_on<R: Wait>(
     steps: u32,
     marks: &[AtomicU64],
 )
-    requires { (pass.old.turns ≡ turns.now) × (pass.old.sight.held ≡ []) }
-    ensures { Stays pass.old pass.new }
+    requires { (pass.old.turns ≡ turns.now.id) × (pass.old.knowledge.held ≡ []) }
+    ensures { StaysIdle pass.old pass.new }
 {
     for step in 0..steps {
-        let place = count(rt, turns, pass, step % 67).and_then(|place| usize::try_from(place).ok());
+        let place = count(rt, turns, pass, step % TURNS as u32).and_then(|place| usize::try_from(
+            place,
+        ).ok());
         if let Some(mark) = place.and_then(|place| marks.get(place)) {
             mark.fetch_add(1, Ordering::SeqCst);
         }
@@ -67,8 +73,8 @@ fn count_on<R: Wait>(
 
 // Whether the pass can take the turn now. If it can, it releases it at once.
 fn is_free(turns: &Turns<Counters>, pass: &mut Pass<Counters>, turn: u32) -> bool
-    requires { (pass.old.turns ≡ turns.now) × (pass.old.sight.held ≡ []) × (turn < 67) }
-    ensures { Stays pass.old pass.new }
+    requires { (pass.old.turns ≡ turns.now.id) × (pass.old.knowledge.held ≡ []) × (turn < TURNS) }
+    ensures { StaysIdle pass.old pass.new }
 {
     match turns.try_take(pass, turn) {
         Some(held) => {
@@ -86,8 +92,8 @@ fn beside<R: Wait>(
     first: &mut Pass<Counters>,
     second: &mut Pass<Counters>,
 ) -> (bool, bool, bool)
-    requires { IsReady turns.now (second.old ∷ first.old ∷ []) }
-    ensures { IsReady turns.now (second.new ∷ first.new ∷ []) }
+    requires { CanClose turns.now.id (second.old ∷ first.old ∷ []) }
+    ensures { CanClose turns.now.id (second.new ∷ first.new ∷ []) }
 {
     let held = turns.take(rt, first, 5);
     let five = is_free(turns, second, 5);
@@ -97,7 +103,7 @@ fn beside<R: Wait>(
 }
 
 // Appends the pass. True if there is no memory for it.
-fn lacks(all: &mut Vec<Pass<Counters>>, pass: Pass<Counters>) -> bool
+fn lacks<S: Shared>(all: &mut Vec<Pass<S>>, pass: Pass<S>) -> bool
     ensures { result ≡ false → all.new.items ≡ all.old.items ++ pass ∷ [] }
 {
     all.push(pass).is_err()
@@ -110,8 +116,8 @@ fn passes(
     mut first: Pass<Counters>,
     more: u32,
 ) -> Option<Vec<Pass<Counters>>>
-    requires { (first.turns ≡ turns.now) × (first.sight ≡ newcomer 0 1 0) }
-    ensures { IfSome result (λ ps. IsReady turns.now ps.items) }
+    requires { (first.turns ≡ turns.now.id) × (first.knowledge ≡ newcomer 0 1 0) }
+    ensures { IfSome result (λ ps. CanClose turns.now.id ps.items) }
 {
     let mut all = Vec::new(alloc);
     for _ in 0..more {
@@ -133,16 +139,17 @@ fn spread<R: Threads + Wait + Sync>(
     steps: u32,
     marks: &[AtomicU64],
 )
-    requires { AllIdle turns.now passes.old }
-    ensures { (i : ℕ) (d : _) → i < length passes.old → Stays (slice_index_or passes.old i d) (slice_index_or passes.new i d) }
+    requires { AllIdle turns.now.id passes.old }
+    ensures { (i : ℕ) (d : _) → i < length passes.old
+        → StaysIdle (slice_index_or passes.old i d) (slice_index_or passes.new i d) }
 {
     for_each_mut(
         rt,
         passes,
         8,
         &|_, pass: &mut Pass<Counters>|
-            requires { (pass.old.turns ≡ turns.now) × (pass.old.sight.held ≡ []) }
-            ensures { Stays pass.old pass.new }
+            requires { (pass.old.turns ≡ turns.now.id) × (pass.old.knowledge.held ≡ []) }
+            ensures { StaysIdle pass.old pass.new }
         { count_on(rt, turns, pass, steps, marks) },
     );
 }
@@ -155,14 +162,18 @@ fn run<R: Threads + Wait + Sync>(
     steps: u32,
     marks: &[AtomicU64],
 ) -> Vec<u64>
-    requires { IsReady turns passes.items }
+    requires { CanClose turns.id passes.items }
 {
     spread(rt, &turns, passes.as_mut_slice(), steps, marks);
     turns.close(passes)
 }
 
 // Both passes, for `close`.
-fn both(alloc: Global, first: Pass<Counters>, second: Pass<Counters>) -> Option<Vec<Pass<Counters>>>
+pub(crate) fn both<S: Shared>(
+    alloc: Global,
+    first: Pass<S>,
+    second: Pass<S>,
+) -> Option<Vec<Pass<S>>>
     ensures { IfSome result (λ ps. ps.items ≡ second ∷ first ∷ []) }
 {
     let mut all = Vec::new(alloc);
@@ -172,13 +183,14 @@ fn both(alloc: Global, first: Pass<Counters>, second: Pass<Counters>) -> Option<
     Some(all)
 }
 
+// Turns whose parts are all zero, with their first pass.
 fn opened(alloc: Global) -> Option<(Turns<Counters>, Pass<Counters>)>
-    ensures { IfSome result (λ made. (made.1.turns ≡ made.0) × (made.1.sight ≡ newcomer 0 1 0)) }
+    ensures { IfSome result (λ made. (made.1.turns ≡ made.0.id) × (made.1.knowledge ≡ newcomer 0 1 0)) }
 {
-    let Ok(parts) = Vec::from_elem(alloc, 0u64, 67) else {
+    let Ok(parts) = Vec::from_elem(alloc, 0u64, TURNS) else {
         return None;
     };
-    match Turns::new(alloc, parts) {
+    match Turns::new(alloc, parts, &()) {
         Ok(made) => Some(made),
         Err(_) => None,
     }
@@ -186,7 +198,7 @@ fn opened(alloc: Global) -> Option<(Turns<Counters>, Pass<Counters>)>
 
 // Turns with two passes.
 fn paired(alloc: Global) -> Option<(Turns<Counters>, Pass<Counters>, Pass<Counters>)>
-    ensures { IfSome result (λ made. IsReady made.0 (made.2 ∷ made.1 ∷ [])) }
+    ensures { IfSome result (λ made. CanClose made.0.id (made.2 ∷ made.1 ∷ [])) }
 {
     let (turns, mut first) = opened(alloc)?;
     let second = turns.split(&mut first);

@@ -1,49 +1,40 @@
-// The turns.
-use crate::keeping::Spare;
+//! The turns, each with its part, in their table.
+use crate::knowledge::MidStep;
 use crate::rule::Discipline;
 use crate::shared::Shared;
-use crate::sight::Doing;
+use crate::spare::Spare;
 use atomic_table::Table;
 use std::alloc::Global;
 use std::marker::Model;
 use std::sync::Mutex;
 
-/// How many turns there are.
-pub(crate) const TURNS: usize = 67;
-
-// Word 0 is the clock, which counts the events. Word 1 + t says whether the turn t is taken, and word 68 + t how many wait for it.
-pub(crate) const WORDS: usize = 135;
-
-pub(crate) const CLOCK: usize = 0;
-
-pub(crate) const WAITERS: usize = 68;
-
-pub(crate) const FREE: u64 = 0;
-
-pub(crate) const TAKEN: u64 = 1;
-
+/// The words and slots that all passes step on.
 pub(crate) type Board<S> = atomic_table::Shared<
     Option<<S as Shared>::Part>,
-    Doing<<S as Shared>::Part, <S as Shared>::Note>,
-    (),
+    MidStep<<S as Shared>::Part, <S as Shared>::Note>,
+    <S as Shared>::Key,
     Discipline<S>,
 >;
 
-/// Turns that threads take, each with its part.
+/// Turns that threads take, each with its part. A contract sees which turns they are, and the key that they were made
+/// with.
 pub struct Turns<S: Shared> {
-    pub(crate) table: Table<Option<S::Part>, Doing<S::Part, S::Note>, (), Discipline<S>, Global>,
+    pub(crate) table: Table<
+        Option<S::Part>,
+        MidStep<S::Part, S::Note>,
+        S::Key,
+        Discipline<S>,
+        Global,
+    >,
     pub(crate) spare: Mutex<Spare<S::Part>>,
 }
 
 impl<S: Shared> Model for Turns<S> {
-    ghost use Rattle.std.specs.Prelude.{◌≡◌};
-    ghost use Rattle.atomic_table.specs.Seated.{TableId, table_id_coded};
+    ghost use Rattle.dk_turns.specs.PassViews.{IsTurnsTable, TurnsView};
 
-    ghost Value = { TableId };
+    ghost Value = { TurnsView S.Key };
 
-    ghost coded = { table_id_coded };
+    ghost view = { λ t. record { id = t.table.shared.table_id; key = t.table.shared.key } };
 
-    ghost view = { λ t. t.table.shared.table_id };
-
-    ghost invariant = { λ t. (t.table.shared.table_id.words ≡ 135) × (t.table.shared.table_id.slots ≡ 67) };
+    ghost invariant = { λ t. IsTurnsTable t.table.shared.table_id };
 }

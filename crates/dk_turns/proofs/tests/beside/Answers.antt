@@ -1,5 +1,6 @@
 use Rattle.std.proofs.Common.{◌<◌, refl, ◌∙◌, inl, inr, arith}
-use Rattle.dk_turns.proofs.Counters.{may_put_taken, stays_more, stays_back, ready_pair}
+use Rattle.dk_turns.specs.declared.layout.TheConstants.{TURNS}
+use Rattle.dk_turns.proofs.CounterLemmas.{may_put_taken, stays_more, stays_back, ready_pair}
 use Rattle.dk_turns.proofs.tests.beside.Goals as goal
 
 pub take-held-requires-clause-pass : goal.take-held-requires-clause-pass
@@ -21,8 +22,8 @@ release-requires-clause-pass g c = c.take-held.ensures.pass ∙ (c.requires.idle
 pub release-requires-clause-held : goal.release-requires-clause-held
 release-requires-clause-held g c =
     let t = c.take-held.ensures in
-    let small : 5 < 67 = omega arith in
-    may_put_taken c.args.first.now.sight c.take-held.new.pass.sight 5 c.take-held.result small t.sight t.turn
+    let small : 5 < TURNS = omega arith in
+    may_put_taken c.args.first.now.knowledge c.take-held.new.pass.knowledge 5 c.take-held.result small t.knowledge t.turn
 
 pub is_free-requires : goal.is_free-requires
 is_free-requires g c =
@@ -35,6 +36,6 @@ returns g c =
     let t = c.take-held.ensures in
     let r = c.release.ensures in
     let second = stays_more c.args.second.now c.is_free-five.new.pass c.is_free-six.new.pass c.is_free-five.ensures c.is_free-six.ensures in
-    ready_pair c.args.turns.now c.args.first.now c.args.second.now c.release.new.pass c.is_free.new.pass
-    (stays_back c.args.first.now c.take-held.new.pass c.release.new.pass 5 c.take-held.result i.1 t.pass t.sight t.turn r.pass r.sight)
+    ready_pair c.args.turns.now.id c.args.first.now c.args.second.now c.release.new.pass c.is_free.new.pass
+    (stays_back c.args.first.now c.take-held.new.pass c.release.new.pass 5 c.take-held.result i.1 t.pass t.knowledge t.turn r.pass r.knowledge)
     (stays_more c.args.second.now c.is_free-six.new.pass c.is_free.new.pass second c.is_free.ensures) c.requires

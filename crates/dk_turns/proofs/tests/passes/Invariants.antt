@@ -1,5 +1,5 @@
-use Rattle.dk_turns.proofs.Counters.{Building}
+use Rattle.dk_turns.proofs.CounterLemmas.{Building}
 use Rattle.dk_turns.proofs.tests.passes.Given as goal
 
 abbrev pub invariant-loop : goal.invariant-loop
-invariant-loop l = Building l.turns l.first l.all.items
+invariant-loop l = Building l.turns.id l.first l.all.items

@@ -1,4 +1,4 @@
-use Rattle.dk_turns.proofs.Counters.{among_at}
+use Rattle.dk_turns.proofs.CounterLemmas.{among_at}
 use Rattle.dk_turns.proofs.tests.spread.Goals as goal
 
 pub for_each_mut-requires-clause-accepts : goal.for_each_mut-requires-clause-accepts

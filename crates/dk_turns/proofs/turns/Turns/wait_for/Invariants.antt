@@ -1,5 +1,5 @@
 use Rattle.std.proofs.Common.{◌≡◌}
-use Rattle.dk_turns.proofs.Waits.{Refused}
+use Rattle.dk_turns.proofs.WaitLemmas.{Refused}
 use Rattle.dk_turns.proofs.turns.Turns.wait_for.Given as goal
 
 abbrev pub invariant-loop : goal.invariant-loop
@@ -7,5 +7,5 @@ invariant-loop g l = record {
   can : (goal.iterator-loop g).can_next l.iterator';
   ends : (goal.iterator-loop g).is_finite l.iterator';
   turns : l.pass.turns ≡ l.fn.pass.turns;
-  waited : Refused l.fn.pass.sight l.pass.sight;
+  waited : Refused l.fn.pass.knowledge l.pass.knowledge;
 }
