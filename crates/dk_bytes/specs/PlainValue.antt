@@ -3,10 +3,10 @@ use Rattle.std.specs.Prelude.{ℕ, ◌<◌, ◌^◌, Bool, true, false, List, []
 use Rattle.std.specs.Str.{is_utf8, bytes_eq}
 use Rattle.std.specs.Ordering.{int_eq}
 use Rattle.std.specs.Int.{w8, w16, w32, w64, to_le_bytes, cast_signed, cast_unsigned}
-use Rattle.dk_types.specs.declared.value.ColType.{ColType}
-use Rattle.dk_types.specs.declared.value.ColType.TheVariants as types
-use Rattle.dk_types.specs.declared.value.Value.{Value}
-use Rattle.dk_types.specs.declared.value.Value.TheVariants as values
+use Rattle.dk_values.specs.declared.value.ColType.{ColType}
+use Rattle.dk_values.specs.declared.value.ColType.TheVariants as types
+use Rattle.dk_values.specs.declared.value.Value.{Value}
+use Rattle.dk_values.specs.declared.value.Value.TheVariants as values
 use Rattle.dk_bytes.specs.Fields.{Place, bytes_at, number_at}
 use Rattle.dk_bytes.specs.Reading.{◌>>=◌}
 

@@ -1,5 +1,5 @@
 -- Readers one after the other, up to the first fault.
-use Rattle.std.specs.Prelude.{◌≡◌, ℕ, List, length, Result, Ok, Err, ◌==◌, if◌then◌else◌}
+use Rattle.std.specs.Prelude.{◌≡◌, ℕ, List, length, Option, Some, None, Result, Ok, Err, ◌==◌, if◌then◌else◌}
 use Rattle.dk_bytes.specs.Fields.{Place}
 use Rattle.dk_bytes.specs.declared.segment_error.SegError.{SegError}
 use Rattle.dk_bytes.specs.declared.segment_error.SegError.TheVariants.{Malformed, OutOfMemory}
@@ -28,3 +28,8 @@ abbrev pub whole : {A : Type 0} → Result (A × Place) ℕ → Result A ℕ
 whole reading = do
   x ← reading
   if length x.1.rest == 0 then Ok x.0 else Err x.1.at
+
+-- what was found, or a fault at the place
+abbrev pub or_fault : {A : Type 0} → ℕ → Option A → Result A ℕ
+or_fault at None = Err at
+or_fault at (Some x) = Ok x

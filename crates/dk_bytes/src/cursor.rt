@@ -1,3 +1,4 @@
+//! A cursor over a byte string, which reads fields of numbers from its front.
 ghost use Rattle.std.specs.Prelude.{◌≡◌, ◌+◌, ◌^◌, ◌<◌, ◌↔◌, [], ◌∷◌, length, Ok, Err, IsErr, IfOk, IfErr, OnErr};
 ghost use Rattle.std.specs.Int.{w8, w16, w32, w64, to_le_bytes};
 

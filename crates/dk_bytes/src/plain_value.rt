@@ -1,18 +1,20 @@
+//! Values of a column's type as plain bytes, written and read again.
 ghost use Rattle.std.specs.Prelude.{◌≡◌, ◌+◌, ◌++◌, ◌<◌, ◌≤◌, ◌^◌, ◌↔◌, true, [], ◌∷◌, length, Ok, IsTrue, IsSome, IfSome, IsUtf8, IfOk, OnOk, OnErr};
 ghost use Rattle.std.specs.Int.{to_le_bytes, w16};
-ghost use Rattle.std.specs.Str.{is_utf8};
-ghost use Rattle.dk_bytes.specs.Fields.{Passes};
+ghost use Rattle.std.specs.List.{AllByRecursion};
+ghost use Rattle.dk_values.specs.declared.value.Value.TheVariants as values;
 ghost use Rattle.dk_bytes.specs.Reading.{Gives};
-ghost use Rattle.dk_bytes.specs.PlainValue.{IsPlain, same, plain_bytes, value_at, bool_at, int_at, big_at, text_at};
+ghost use Rattle.dk_bytes.specs.PlainValue.{IsPlain, same, plain_bytes, present, value_at, bool_at, int_at, big_at, text_at};
 
 use crate::cursor::Cursor;
-use crate::put::{put_u8, put_u16, put_u32, put_u64};
+use crate::present::split_present;
+use crate::put::{cut_if_failed, put_u8, put_u16, put_u32, put_u64};
 use crate::segment_error::SegError;
-use dk_types::{ColType, List, OutOfMemory, Value};
+use dk_values::{ColType, List, OutOfMemory, Value, is_utf8};
 use std::alloc::Global;
 
 /// Whether two values are the same one.
-#[tactic(auto, using(crate::proofs::Same::tests_same))]
+#[tactic(auto, using(crate::proofs::SameLemmas::tests_same))]
 pub fn is_same(one: &Value, other: &Value) -> bool
     ensures fact { IsTrue result ↔ (one.now ≡ other.now) }
     ensures test { result ≡ same one.now other.now }
@@ -41,22 +43,30 @@ pub fn plain_len(value: &Value, kind: ColType) -> Option<usize>
     }
 }
 
+/// How many bytes the text takes behind its length, if it is one that a column may store.
 fn text_len(text: &[u8]) -> Option<usize>
     ensures held { IsSome result ↔ ((length text.now < 2 ^ 16) × IsUtf8 text.now) }
     ensures length { IfSome result (λ n. n ≡ 2 + length text.now) }
     ensures small { IfSome result (λ n. n ≤ 65537) }
 {
-    if text.len() > u16::MAX as usize || !is_text(text) {
+    if text.len() > u16::MAX as usize || !is_utf8(text) {
         return None;
     }
     Some(2 + text.len())
 }
 
-fn is_text(bytes: &[u8]) -> bool
-    ensures test { result ≡ is_utf8 bytes.now }
-    ensures fact { IsTrue result ↔ IsUtf8 bytes.now }
+/// Whether all values that are present are of the type, and so have plain bytes.
+pub fn are_plain(values: &[Value], kind: ColType) -> bool
+    ensures { IsTrue result ↔ AllByRecursion (IsPlain kind) (present values.now) }
 {
-    simdutf8::is_utf8(bytes)
+    let mut left = values;
+    'values: while let Some((value, rest)) = split_present(left) {
+        if plain_len(value, kind).is_none() {
+            return false;
+        }
+        left = rest;
+    }
+    true
 }
 
 /// Appends the plain bytes of a value.
@@ -74,6 +84,7 @@ pub fn put_value(out: &mut Vec<u8>, value: &Value, kind: ColType) -> Result<(), 
     }
 }
 
+/// Appends a text behind its length.
 fn put_text(out: &mut Vec<u8>, text: &[u8]) -> Result<(), OutOfMemory>
     requires { length text.now < 2 ^ 16 }
     ensures ok { OnOk result (out.new.items ≡ out.old.items ++ (to_le_bytes w16 (length text.now) ++ text.now)) }
@@ -82,10 +93,7 @@ fn put_text(out: &mut Vec<u8>, text: &[u8]) -> Result<(), OutOfMemory>
     let start = out.len();
     put_u16(out, text.len() as u16)?;
     let put = out.extend_from_slice(text);
-    if put.is_err() {
-        out.truncate(start);
-    }
-    put
+    cut_if_failed(out, start, put)
 }
 
 /// An equal value. Only a text takes memory.
@@ -145,15 +153,23 @@ fn read_big(cursor: &mut Cursor) -> Result<Value, SegError>
     Ok(Value::Big(number.cast_signed()))
 }
 
-#[tactic(auto, unfolding(crate::specs::PlainValue::text_at))]
 fn read_text(alloc: Global, cursor: &mut Cursor) -> Result<Value, SegError>
     ensures { Gives (λ v. (v, cursor.new)) result (text_at cursor.old) }
+{
+    let text = take_text(cursor)?;
+    Ok(Value::Text(List::from_vec(Vec::from_slice(alloc, text)?)))
+}
+
+/// Lends the text that stands next, behind its length. Where it fails the cursor may stand behind the length.
+#[tactic(auto, unfolding(crate::specs::PlainValue::text_at))]
+pub fn take_text<'a>(cursor: &mut Cursor<'a>) -> Result<&'a [u8], SegError>
+    ensures { Gives (λ text. (values.Text text.now, cursor.new)) result (text_at cursor.old) }
 {
     let len = cursor.u16()?;
     let at = cursor.at();
     let text = cursor.take(len as usize)?;
-    if is_text(text) {
-        Ok(Value::Text(List::from_vec(Vec::from_slice(alloc, text)?)))
+    if is_utf8(text) {
+        Ok(text)
     } else {
         Err(SegError::Malformed { at })
     }

@@ -1,7 +1,8 @@
+//! The values that are not null.
 ghost use Rattle.std.specs.Prelude.{◌≡◌, ◌<◌, ◌≤◌, [], ◌∷◌, length, IfSome, IsNone};
 ghost use Rattle.dk_bytes.specs.PlainValue.{is_present, present};
 
-use dk_types::Value;
+use dk_values::Value;
 
 /// Whether the value is not null.
 pub fn is_present(value: &Value) -> bool
@@ -14,7 +15,7 @@ pub fn is_present(value: &Value) -> bool
 }
 
 /// How many values are not null.
-#[tactic(auto, using(crate::proofs::Presence::count_is, crate::proofs::Presence::present_few))]
+#[tactic(auto, using(crate::proofs::PresenceLemmas::count_is, crate::proofs::PresenceLemmas::present_few))]
 pub fn present_count(values: &[Value]) -> usize
     ensures count { result ≡ length (present values.now) }
     ensures within { result ≤ length values.now }

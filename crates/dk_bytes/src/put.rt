@@ -1,4 +1,5 @@
-ghost use Rattle.std.specs.Prelude.{◌≡◌, [], ◌∷◌, ◌++◌, OnOk, OnErr};
+//! Fields of numbers, appended with their least byte first.
+ghost use Rattle.std.specs.Prelude.{◌≡◌, [], ◌∷◌, ◌++◌, take, OnOk, OnErr};
 ghost use Rattle.std.specs.Int.{w16, w32, w64, to_le_bytes};
 
 use std::alloc::AllocError as OutOfMemory;
@@ -34,4 +35,20 @@ pub fn put_u64(out: &mut Vec<u8>, v: u64) -> Result<(), OutOfMemory>
     ensures err { OnErr result (out.new.items ≡ out.old.items) }
 {
     out.extend_from_slice(&v.to_le_bytes())
+}
+
+/// Leaves what was put behind the first `start` bytes if all of it was, and takes it back if memory was missing.
+pub fn cut_if_failed(
+    out: &mut Vec<u8>,
+    start: usize,
+    put: Result<(), OutOfMemory>,
+) -> Result<(), OutOfMemory>
+    ensures same { result ≡ put }
+    ensures ok { OnOk result (out.new.items ≡ out.old.items) }
+    ensures err { OnErr result (out.new.items ≡ take start out.old.items) }
+{
+    if put.is_err() {
+        out.truncate(start);
+    }
+    put
 }

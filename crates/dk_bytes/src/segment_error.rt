@@ -1,3 +1,4 @@
+//! Why bytes stand for no values, with the place of the first fault.
 ghost use Rattle.std.specs.Prelude.{◌≡◌};
 ghost use Rattle.dk_bytes.specs.declared.segment_error.SegError.TheVariants.{Malformed, OutOfMemory};
 

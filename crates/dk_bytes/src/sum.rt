@@ -1,30 +1,29 @@
-ghost use Rattle.std.specs.Prelude.{◌≡◌, ◌<◌, ◌≤◌, ℕ, List, length};
+//! The checksum of a byte string.
+ghost use Rattle.std.specs.Prelude.{◌≡◌, ℕ, List};
 ghost use Rattle.std.specs.Int.{w64, from_le_bytes};
 ghost use Rattle.dk_bytes.specs.Checksum.{with_word, with_bytes, checksum_of, DifferInOneWord};
 
-use crate::word::word_of;
+use crate::word::{last_word, word_of};
 
 /// The odd number that a word is multiplied by: 2^64 over the golden ratio.
 const MULTIPLIER: u64 = 0x9E37_79B9_7F4A_7C15;
 
+/// The sum before the first word.
+const SEED: u64 = 5381;
+
+/// How far the higher bits of a product are folded down.
+const SPREAD: u32 = 29;
+
+/// The sum with one more word folded in.
 fn fold_word(sum: u64, word: u64) -> u64
     ensures { result ≡ with_word sum word }
 {
     let mixed = (sum ^ word).wrapping_mul(MULTIPLIER);
-    mixed ^ (mixed >> 29)
+    mixed ^ (mixed >> SPREAD)
 }
 
-/// The word of a last piece, with zeros behind it.
-fn last_word(bytes: &[u8]) -> u64
-    requires { length bytes.now < 8 }
-    ensures { result ≡ from_le_bytes w64 bytes.now }
-{
-    let mut word = [0u8; 8];
-    word[..bytes.len()].copy_from_slice(bytes);
-    u64::from_le_bytes(word)
-}
-
-#[tactic(auto, using(crate::proofs::Words::fold_first, crate::proofs::Words::fold_last, crate::proofs::Words::fold_none))]
+/// The sum with the words of these bytes folded in.
+#[tactic(auto, using(crate::proofs::WordLemmas::fold_first, crate::proofs::WordLemmas::fold_last, crate::proofs::WordLemmas::fold_none))]
 fn fold_bytes(start: u64, bytes: &[u8]) -> u64
     ensures { result ≡ with_bytes start bytes.now }
 {
@@ -51,8 +50,9 @@ pub fn checksum(bytes: &[u8]) -> u64
     folded(bytes)
 }
 
+/// The fold that `checksum` answers.
 fn folded(bytes: &[u8]) -> u64
     ensures { result ≡ checksum_of bytes.now }
 {
-    fold_word(fold_bytes(5381, bytes), bytes.len() as u64)
+    fold_word(fold_bytes(SEED, bytes), bytes.len() as u64)
 }

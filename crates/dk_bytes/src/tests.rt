@@ -1,3 +1,4 @@
+//! Fields that come back, a field that is short, and checksums that were computed elsewhere.
 use super::*;
 use std::test::*;
 

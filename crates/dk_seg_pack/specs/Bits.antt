@@ -24,9 +24,11 @@ packed_behind pending count width numbers =
 -- a number of that width was put behind the pending bits, where some bytes were appended: whatever numbers are to come
 abbrev pub PutsBehind : List ℕ → List ℕ → Pending → Pending → ℕ → ℕ → Type 0
 PutsBehind out out' pending pending' width number =
-    (numbers : List ℕ) → out' ++ packed_behind pending'.number pending'.count width numbers ≡ out ++ packed_behind pending.number pending.count width (number ∷ numbers)
+    (numbers : List ℕ) → out' ++ packed_behind pending'.number pending'.count width numbers
+    ≡ out ++ packed_behind pending.number pending.count width (number ∷ numbers)
 
--- the bytes of numbers of that width: the number that they make as digits, the first the lowest, as digits to the base 256
+-- the bytes of numbers of that width: the number that they make as digits, the first the lowest, as digits to the
+-- base 256
 abbrev pub packed : ℕ → List ℕ → List ℕ
 packed width numbers = digits_l 256 (byte_count (width * length numbers)) (number_l (2 ^ width) numbers)
 

@@ -2,13 +2,13 @@
 use Rattle.std.specs.Prelude.{ℕ, ℤ, pos, negsuc, ◌+◌, ◌-◌, ◌*◌, ◌<◌, ◌^◌, ◌%◌, Bool, true, false, ◌&&◌, ◌||◌, not, min, max, fold, map, List, [], ◌∷◌, ◌++◌, length, Option, Some, None, Result, Ok, Err, ◌==◌, nat_lt, nat_le, if◌then◌else◌}
 use Rattle.std.specs.List.{AllByRecursion, list_any}
 use Rattle.std.specs.Int.{w8, w64, to_le_bytes}
-use Rattle.dk_types.specs.declared.value.ColType.{ColType}
-use Rattle.dk_types.specs.declared.value.ColType.TheVariants as types
-use Rattle.dk_types.specs.declared.value.Value.{Value}
-use Rattle.dk_types.specs.declared.value.Value.TheVariants as values
+use Rattle.dk_values.specs.declared.value.ColType.{ColType}
+use Rattle.dk_values.specs.declared.value.ColType.TheVariants as types
+use Rattle.dk_values.specs.declared.value.Value.{Value}
+use Rattle.dk_values.specs.declared.value.Value.TheVariants as values
 use Rattle.dk_bytes.specs.Fields.{Place, bytes_at, number_at}
 use Rattle.dk_bytes.specs.PlainValue.{IsPlain, bit_byte}
-use Rattle.dk_bytes.specs.Reading.{◌>>=◌, start, whole}
+use Rattle.dk_bytes.specs.Reading.{◌>>=◌, start, whole, or_fault}
 use Rattle.dk_seg_pack.specs.Bits.{bit_width, byte_count, packed, numbers_in}
 
 -- how far a number stands above the least one of 64 bits
@@ -29,8 +29,10 @@ rank_of value = 0
 
 -- the value of the type whose number has that rank
 abbrev pub value_of_rank : ColType → ℕ → Option Value
-value_of_rank types.Bool r = if r == 2 ^ 63 then Some (values.Bool false) else (if r == 2 ^ 63 + 1 then Some (values.Bool true) else None)
-value_of_rank types.Int r = if nat_le (2 ^ 63 - 2 ^ 31) r && nat_lt r (2 ^ 63 + 2 ^ 31) then Some (values.Int (number_of_rank r)) else None
+value_of_rank types.Bool r = if r == 2 ^ 63 then Some (values.Bool false)
+    else (if r == 2 ^ 63 + 1 then Some (values.Bool true) else None)
+value_of_rank types.Int r = if nat_le (2 ^ 63 - 2 ^ 31) r
+    && nat_lt r (2 ^ 63 + 2 ^ 31) then Some (values.Int (number_of_rank r)) else None
 value_of_rank types.Big r = if nat_lt r (2 ^ 64) then Some (values.Big (number_of_rank r)) else None
 value_of_rank types.Text r = None
 
@@ -53,7 +55,8 @@ differences ranks = map (λ r. r - least ranks) ranks
 
 -- the least number, the width, and the differences
 abbrev pub body_of : List ℕ → List ℕ
-body_of ranks = to_le_bytes w64 (half_turned (least ranks)) ++ (width_of ranks ∷ packed (width_of ranks) (differences ranks))
+body_of ranks = to_le_bytes w64 (half_turned (least ranks))
+    ++ (width_of ranks ∷ packed (width_of ranks) (differences ranks))
 
 abbrev pub packed_bytes : List Value → List ℕ
 packed_bytes values = body_of (map rank_of values)
@@ -83,10 +86,6 @@ abbrev pub values_of : ColType → ℕ → ℕ → Option (List ℕ) → Option 
 values_of kind base width None = None
 values_of kind base width (Some ds) =
     if list_any (λ d. d == 0) ds && (bit_width (greatest ds) == width) then values_above kind base ds else None
-
-abbrev pub or_fault : {A : Type 0} → ℕ → Option A → Result A ℕ
-or_fault at None = Err at
-or_fault at (Some x) = Ok x
 
 -- the differences and what follows them; every fault of theirs is charged to their first byte
 unfoldable pub differences_at : ColType → ℕ → ℕ → ℕ → Place → Result (List Value × Place) ℕ

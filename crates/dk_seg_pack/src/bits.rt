@@ -1,10 +1,10 @@
+//! Strings of bits, the least bit first: put together from numbers, and taken apart.
 ghost use Rattle.std.specs.Prelude.{◌≡◌, ◌+◌, ◌*◌, ◌/◌, ◌%◌, ◌^◌, ◌<◌, ◌≤◌, ◌↔◌, ◌++◌, IsTrue, MatchOption, OnOk, OnErr, length, take};
 ghost use Rattle.std.specs.Simd.Lanes.{number_l as number, digits_l as digits};
 ghost use Rattle.std.specs.List.{All};
-ghost use Rattle.std.specs.Int.{w64, from_le_bytes};
 ghost use Rattle.dk_seg_pack.specs.Bits.{byte_count, PutsBehind};
 
-use dk_bytes::put_u64;
+use dk_bytes::{last_word, put_u64, word_of};
 use std::alloc::AllocError as OutOfMemory;
 use std::marker::Model;
 
@@ -82,7 +82,7 @@ impl PendingBits {
     }
 
     /// The bytes of what is left, the last one filled with zeros.
-    #[tactic(auto, using(crate::proofs::Digits::front_bytes))]
+    #[tactic(auto, using(crate::proofs::DigitLemmas::front_bytes))]
     pub(crate) fn finish(self, out: &mut Vec<u8>) -> Result<(), OutOfMemory>
         ensures ok { OnOk result (out.new.items ≡ out.old.items ++ digits 256 (byte_count self.count) self.number) }
         ensures err { OnErr result (out.new.items ≡ out.old.items) }
@@ -162,31 +162,21 @@ fn filled(held: u128, count: u32, rest: &[u8], width: u32) -> (u128, u32, &[u8])
     (held + ((word as u128) << count), count + 64, behind)
 }
 
+/// Whether all bytes are 0.
 fn are_zero(bytes: &[u8]) -> bool
     ensures { IsTrue result ↔ All (λ byte. byte ≡ 0) bytes.now }
 {
     bytes.iter().all(|byte| *byte == 0)
 }
 
-/// The first eight bytes as a number, the least byte first, with zeros where there are fewer, and the bytes behind them.
+/// The first eight bytes as a number, the least byte first, with zeros where there are fewer, and the bytes behind
+/// them.
 fn split_word(bytes: &[u8]) -> (u64, &[u8])
     ensures { number 256 bytes.now ≡ result.0 + 2 ^ 64 * number 256 result.1.now }
 {
-    match bytes {
-        [a, b, c, d, e, f, g, h, rest @ ..] => (
-            u64::from_le_bytes([*a, *b, *c, *d, *e, *f, *g, *h]),
-            rest,
-        ),
-        _ => (last_word(bytes), &[]),
+    if bytes.len() < 8 {
+        return (last_word(bytes), &[]);
     }
-}
-
-/// The word of a last piece, with zeros behind it.
-fn last_word(bytes: &[u8]) -> u64
-    requires { length bytes.now < 8 }
-    ensures { result ≡ from_le_bytes w64 bytes.now }
-{
-    let mut word = [0u8; 8];
-    word[..bytes.len()].copy_from_slice(bytes);
-    u64::from_le_bytes(word)
+    let (front, behind) = bytes.split_at(8);
+    (word_of(front), behind)
 }

@@ -1,3 +1,4 @@
+//! Numbers of one width, packed into bytes.
 ghost use Rattle.std.specs.Prelude.{◌≡◌, ℕ, ◌*◌, ◌^◌, ◌<◌, ◌≤◌, ◌++◌, length, take, option_map, OnOk, IfOk};
 ghost use Rattle.std.specs.List.{All};
 ghost use Rattle.dk_seg_pack.specs.Bits.{bit_width, byte_count, packed, numbers_in};

@@ -2,21 +2,31 @@
 //! passed over.
 
 ghost use Rattle.std.specs.Prelude.{◌≡◌, ◌++◌, ◌↔◌, ◌≤◌, ◌<◌, ◌^◌, ◌+◌, ◌-◌, ◌*◌, ◌==◌, ◌&&◌, List, length, take, Ok, map, option_map, not, IsSome, IsTrue, IfSome, IfOk, OnOk, OnErr};
-ghost use Rattle.dk_types.specs.declared.value.Value.{Value};
-ghost use Rattle.dk_bytes.specs.PlainValue.{IsPlain, present};
+ghost use Rattle.dk_values.specs.declared.value.Value.{Value};
+ghost use Rattle.dk_bytes.specs.PlainValue.{present};
 ghost use Rattle.dk_bytes.specs.Reading.{Gives};
 ghost use Rattle.dk_seg_pack.specs.Bits.{bit_width};
-ghost use Rattle.std.specs.List.{AllByRecursion, list_any};
+ghost use Rattle.std.specs.List.{list_any};
 ghost use Rattle.dk_seg_pack.specs.Packed.{value_of_rank, rank_of, least, greatest, differences, width_of, body_of, packed_bytes, IsPacked, is_numeric, values_above, values_of, differences_at, numbers_at, packed_at};
 
 use crate::numbers::{bit_width, byte_count, pack, take_packed, unpack};
 use crate::rank::{half_turned, rank_of, value_of_rank};
 use dk_bytes::{
-    Cursor, SegError, is_present, plain_len, present_count, put_u8, put_u64, split_present,
+    Cursor, SegError, are_plain, cut_if_failed, is_present, present_count, put_u8, put_u64,
 };
-use dk_types::{ColType, OutOfMemory, Value};
+use dk_values::{ColType, OutOfMemory, Value};
 use std::alloc::Global;
 
+/// What a body says ahead of its differences.
+#[derive(Clone, Copy)]
+struct Frame {
+    /// The least rank.
+    base: u64,
+    /// How many bits each difference has.
+    width: u32,
+}
+
+/// Whether the values of the type are numbers.
 fn is_numeric(kind: ColType) -> bool
     ensures { result ≡ is_numeric kind }
 {
@@ -33,20 +43,7 @@ fn is_packed(values: &[Value], kind: ColType) -> bool
     is_numeric(kind) && present_count(values) > 0 && are_plain(values, kind)
 }
 
-/// Whether all that are present are values of the type.
-fn are_plain(values: &[Value], kind: ColType) -> bool
-    ensures { IsTrue result ↔ AllByRecursion (IsPlain kind) (present values.now) }
-{
-    let mut left = values;
-    'values: while let Some((value, rest)) = split_present(left) {
-        if plain_len(value, kind).is_none() {
-            return false;
-        }
-        left = rest;
-    }
-    true
-}
-
+/// The least rank of the values that are present.
 fn least(values: &[Value]) -> u64
     ensures { result ≡ least (map rank_of (present values.now)) }
 {
@@ -57,6 +54,7 @@ fn least(values: &[Value]) -> u64
         .fold(u64::MAX, |least, rank| least.min(rank))
 }
 
+/// The greatest one.
 fn greatest(values: &[Value]) -> u64
     ensures { result ≡ greatest (map rank_of (present values.now)) }
 {
@@ -77,7 +75,7 @@ fn width_of(values: &[Value]) -> u32
 }
 
 /// How long the body of these values is, if they are numbers of the type.
-#[tactic(auto, using(crate::proofs::Bodies::packed_len))]
+#[tactic(auto, using(crate::proofs::BodyLemmas::packed_len))]
 pub fn size(values: &[Value], kind: ColType) -> Option<usize>
     ensures held { IsSome result ↔ IsPacked kind (present values.now) }
     ensures length { IfSome result (λ n. n ≡ length (packed_bytes (present values.now))) }
@@ -94,12 +92,9 @@ pub fn encode(values: &[Value], kind: ColType, out: &mut Vec<u8>) -> Result<(), 
     ensures ok { OnOk result (out.new.items ≡ out.old.items ++ packed_bytes (present values.now)) }
     ensures err { OnErr result (out.new.items ≡ out.old.items) }
 {
-    let before = out.len();
-    let done = put_body(values, out);
-    if done.is_err() {
-        out.truncate(before);
-    }
-    done
+    let start = out.len();
+    let put = put_body(values, out);
+    cut_if_failed(out, start, put)
 }
 
 /// Appends the body. Without memory a part of it may have been appended.
@@ -133,13 +128,16 @@ pub fn decode(
     kind: ColType,
     count: usize,
 ) -> Result<Vec<Value>, SegError>
-    ensures found { IfOk result (λ v. (length v.items ≡ count) × IsPacked kind v.items × (bytes.now ≡ packed_bytes v.items)) }
-    ensures only { (values : List Value) → length values ≡ count → IsPacked kind values → bytes.now ≡ packed_bytes values → Gives (λ v. v.items) result (Ok values) }
+    ensures found { IfOk result (λ v. (length v.items ≡ count) × IsPacked kind v.items
+        × (bytes.now ≡ packed_bytes v.items)) }
+    ensures only { (values : List Value) → length values ≡ count → IsPacked kind values
+        → bytes.now ≡ packed_bytes values → Gives (λ v. v.items) result (Ok values) }
     ensures place { Gives (λ v. v.items) result (packed_at kind count bytes.now) }
 {
     read(alloc, bytes, kind, count)
 }
 
+/// The values, or the first fault.
 #[tactic(auto, unfolding(crate::specs::Packed::packed_at))]
 fn read(alloc: Global, bytes: &[u8], kind: ColType, count: usize) -> Result<Vec<Value>, SegError>
     ensures { Gives (λ v. v.items) result (packed_at kind count bytes.now) }
@@ -155,6 +153,7 @@ fn read(alloc: Global, bytes: &[u8], kind: ColType, count: usize) -> Result<Vec<
     Ok(values)
 }
 
+/// The least number, the width and the differences, as values.
 #[tactic(auto, unfolding(crate::specs::Packed::numbers_at))]
 fn read_numbers(
     alloc: Global,
@@ -170,25 +169,30 @@ fn read_numbers(
     if width > 64 {
         return Err(SegError::Malformed { at });
     }
-    read_differences(alloc, cursor, kind, count, half_turned(base), width as u32)
+    let frame = Frame {
+        base: half_turned(base),
+        width: width as u32,
+    };
+    read_differences(alloc, cursor, kind, count, frame)
 }
 
+/// The differences to the frame's least rank, as values.
 #[tactic(auto, unfolding(crate::specs::Packed::differences_at))]
 fn read_differences(
     alloc: Global,
     cursor: &mut Cursor,
     kind: ColType,
     count: usize,
-    base: u64,
-    width: u32,
+    frame: Frame,
 ) -> Result<Vec<Value>, SegError>
-    requires { width ≤ 64 }
-    ensures { Gives (λ v. (v.items, cursor.new)) result (differences_at kind count base width cursor.old) }
+    requires { frame.width ≤ 64 }
+    ensures { Gives (λ v. (v.items, cursor.new)) result
+        (differences_at kind count frame.base frame.width cursor.old) }
 {
     let at = cursor.at();
-    let bytes = take_packed(cursor, width, count)?;
-    let differences = unpack(alloc, bytes, width, count)?;
-    match values_of(alloc, kind, base, width, &differences)? {
+    let bytes = take_packed(cursor, frame.width, count)?;
+    let differences = unpack(alloc, bytes, frame.width, count)?;
+    match values_of(alloc, kind, frame.base, frame.width, &differences)? {
         Some(values) => Ok(values),
         None => Err(SegError::Malformed { at }),
     }
@@ -202,7 +206,8 @@ fn values_of(
     width: u32,
     differences: &Option<Vec<u64>>,
 ) -> Result<Option<Vec<Value>>, OutOfMemory>
-    ensures { IfOk result (λ values. option_map (λ v. v.items) values ≡ values_of kind base width (option_map (λ v. v.items) differences.now)) }
+    ensures { IfOk result (λ values. option_map (λ v. v.items) values
+        ≡ values_of kind base width (option_map (λ v. v.items) differences.now)) }
 {
     match differences {
         Some(ds) if fit(ds, width) => values_above(alloc, kind, base, ds),
@@ -217,18 +222,21 @@ fn fit(differences: &[u64], width: u32) -> bool
     has_zero(differences) && bit_width(greatest_of(differences)) == width
 }
 
+/// Whether one difference is 0.
 fn has_zero(differences: &[u64]) -> bool
     ensures { result ≡ list_any (λ d. d == 0) differences.now }
 {
     differences.iter().any(|d| *d == 0)
 }
 
+/// The greatest difference.
 fn greatest_of(differences: &[u64]) -> u64
     ensures { result ≡ greatest differences.now }
 {
     differences.iter().fold(0, |greatest, d| greatest.max(*d))
 }
 
+/// The value of the type so far above that rank.
 fn value_above(kind: ColType, base: u64, difference: u64) -> Option<Value>
     ensures { result ≡ value_of_rank kind (base + difference) }
 {

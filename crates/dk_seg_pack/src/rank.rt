@@ -1,11 +1,13 @@
+//! The rank of a value: how far its number stands above the least one of 64 bits.
 ghost use Rattle.std.specs.Prelude.{◌≡◌};
 ghost use Rattle.dk_seg_pack.specs.Packed.{rank, number_of_rank, rank_of, value_of_rank, half_turned};
 
-use dk_types::{ColType, Value};
+use dk_values::{ColType, Value};
 
 /// The rank of the number 0.
 const ZERO: u64 = 1 << 63;
 
+/// The rank of a number.
 fn signed_rank(number: i64) -> u64
     ensures { result ≡ rank number }
 {
@@ -24,6 +26,7 @@ pub(crate) fn rank_of(value: &Value) -> u64
     }
 }
 
+/// The number of that rank.
 fn number_of_rank(rank: u64) -> i64
     ensures { result ≡ number_of_rank rank }
 {
@@ -42,6 +45,7 @@ pub(crate) fn value_of_rank(kind: ColType, rank: u64) -> Option<Value>
     }
 }
 
+/// The truth value of that rank.
 fn bool_of_rank(rank: u64) -> Option<Value>
     ensures { result ≡ value_of_rank ColType.Bool rank }
 {
@@ -52,6 +56,7 @@ fn bool_of_rank(rank: u64) -> Option<Value>
     }
 }
 
+/// The number of 32 bits of that rank.
 fn int_of_rank(rank: u64) -> Option<Value>
     ensures { result ≡ value_of_rank ColType.Int rank }
 {

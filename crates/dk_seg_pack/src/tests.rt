@@ -1,6 +1,7 @@
+//! Packed numbers and bodies that are spelled out, and the place of the first fault of others.
 use super::*;
 use dk_bytes::SegError;
-use dk_types::{ColType, Value};
+use dk_values::{ColType, Value};
 use std::alloc::Global;
 use std::process::Abort;
 use std::test::*;

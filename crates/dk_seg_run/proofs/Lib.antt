@@ -1,6 +1,6 @@
-pub mod Replicas
-pub mod Runs
-pub mod RunFields
-pub mod RunLoops
-pub mod ConstantFields
-pub mod RunsWithin
+pub mod CopyLemmas
+pub mod RunLemmas
+pub mod RunBodyLemmas
+pub mod RunLoopLemmas
+pub mod ConstantLemmas
+pub mod RunFaultLemmas

@@ -1,8 +1,8 @@
 -- The bodies of segments whose values are all the same.
 use Rattle.std.specs.Prelude.{◌≡◌, ℕ, zero, suc, List, [], ◌∷◌, Result, Ok, Err, replicate}
 use Rattle.std.specs.List.{AllByRecursion}
-use Rattle.dk_types.specs.declared.value.ColType.{ColType}
-use Rattle.dk_types.specs.declared.value.Value.{Value}
+use Rattle.dk_values.specs.declared.value.ColType.{ColType}
+use Rattle.dk_values.specs.declared.value.Value.{Value}
 use Rattle.dk_bytes.specs.PlainValue.{IsPlain, plain_bytes, value_at}
 use Rattle.dk_bytes.specs.Reading.{◌>>=◌, start, whole}
 

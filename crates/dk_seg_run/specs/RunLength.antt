@@ -2,8 +2,8 @@
 use Rattle.std.specs.Prelude.{ℕ, zero, suc, ◌+◌, ◌-◌, ◌<◌, ◌^◌, Bool, false, List, [], ◌∷◌, ◌++◌, length, not, ◌||◌, Option, Some, None, Result, Ok, Err, replicate, ◌==◌, if◌then◌else◌, slice_get, option_map}
 use Rattle.std.specs.List.{flat_map, AllByRecursion}
 use Rattle.std.specs.Int.{w16, w32, to_le_bytes}
-use Rattle.dk_types.specs.declared.value.ColType.{ColType}
-use Rattle.dk_types.specs.declared.value.Value.{Value}
+use Rattle.dk_values.specs.declared.value.ColType.{ColType}
+use Rattle.dk_values.specs.declared.value.Value.{Value}
 use Rattle.dk_seg_run.specs.declared.run_length.Run.{Run}
 use Rattle.dk_bytes.specs.Fields.{Place, number_at}
 use Rattle.dk_bytes.specs.PlainValue.{IsPlain, plain_bytes, is_present, same, value_at}
@@ -26,7 +26,8 @@ run_of value count = record { value = value; count = count }
 -- the runs of a value and the values after it, of which these are the runs
 abbrev pub with_value : Value → List Run → List Run
 with_value value [] = run_of value 1 ∷ []
-with_value value (run ∷ runs) = if same value run.value then run_of run.value (run.count + 1) ∷ runs else run_of value 1 ∷ run ∷ runs
+with_value value (run ∷ runs) = if same value run.value then run_of run.value (run.count + 1) ∷ runs
+    else run_of value 1 ∷ run ∷ runs
 
 -- equal neighbours, gathered
 abbrev pub runs_of : List Value → List Run

@@ -2,14 +2,14 @@
 
 ghost use Rattle.std.specs.Prelude.{◌≡◌, ◌++◌, ◌↔◌, List, length, Ok, IsSome, IsTrue, IfSome, IfOk, OnOk, OnErr};
 ghost use Rattle.std.specs.List.{AllByRecursion};
-ghost use Rattle.dk_types.specs.declared.value.Value.{Value};
+ghost use Rattle.dk_values.specs.declared.value.Value.{Value};
 ghost use Rattle.dk_bytes.specs.PlainValue.{present};
 ghost use Rattle.dk_bytes.specs.Reading.{Gives};
 ghost use Rattle.dk_seg_run.specs.Constant.{IsConstant, constant_bytes, constant_at};
 
 use crate::copies::push_copies;
 use dk_bytes::{Cursor, SegError, is_same, plain_len, put_value, read_value, split_present};
-use dk_types::{ColType, OutOfMemory, Value};
+use dk_values::{ColType, OutOfMemory, Value};
 use std::alloc::Global;
 
 /// How long the body of these values is, if all are one.
@@ -57,13 +57,16 @@ pub fn decode(
     kind: ColType,
     count: usize,
 ) -> Result<Vec<Value>, SegError>
-    ensures found { IfOk result (λ v. (length v.items ≡ count) × IsConstant kind v.items × (bytes.now ≡ constant_bytes v.items)) }
-    ensures only { (values : List Value) → length values ≡ count → IsConstant kind values → bytes.now ≡ constant_bytes values → Gives (λ v. v.items) result (Ok values) }
+    ensures found { IfOk result (λ v. (length v.items ≡ count) × IsConstant kind v.items
+        × (bytes.now ≡ constant_bytes v.items)) }
+    ensures only { (values : List Value) → length values ≡ count → IsConstant kind values
+        → bytes.now ≡ constant_bytes values → Gives (λ v. v.items) result (Ok values) }
     ensures place { Gives (λ v. v.items) result (constant_at kind count bytes.now) }
 {
     read(alloc, bytes, kind, count)
 }
 
+/// The values, or the first fault.
 #[tactic(auto, unfolding(crate::specs::Constant::constant_at))]
 fn read(alloc: Global, bytes: &[u8], kind: ColType, count: usize) -> Result<Vec<Value>, SegError>
     ensures { Gives (λ v. v.items) result (constant_at kind count bytes.now) }

@@ -1,11 +1,12 @@
+//! Copies of one value.
 ghost use Rattle.std.specs.Prelude.{◌≡◌, ◌++◌, OnOk, replicate};
 
 use dk_bytes::copy_value;
-use dk_types::{OutOfMemory, Value};
+use dk_values::{OutOfMemory, Value};
 use std::alloc::Global;
 
 /// Appends so many copies of a value.
-#[tactic(auto, using(crate::proofs::Replicas::one_more))]
+#[tactic(auto, using(crate::proofs::CopyLemmas::one_more))]
 pub(crate) fn push_copies(
     alloc: Global,
     out: &mut Vec<Value>,

@@ -3,17 +3,17 @@
 
 ghost use Rattle.std.specs.Prelude.{◌≡◌, ◌+◌, ◌++◌, ◌<◌, ◌^◌, ◌≤◌, ◌↔◌, ℕ, List, ◌∷◌, Option, None, length, take, drop, Ok, IsSome, IsOk, IsTrue, IfSome, IfOk, OnOk, OnErr, vec_len};
 ghost use Rattle.std.specs.List.{AllByRecursion, flat_map, prefix_len};
-ghost use Rattle.dk_types.specs.declared.value.Value.{Value};
+ghost use Rattle.dk_values.specs.declared.value.Value.{Value};
 ghost use Rattle.dk_bytes.specs.Reading.{Gives};
 ghost use Rattle.dk_bytes.specs.PlainValue.{present};
 ghost use Rattle.dk_seg_run.specs.RunLength.{passes, IsRun, HasRuns, run_of, runs_of, run_bytes, run_length_bytes, run_length_at, run_at, runs_at, expanded, last_of, repeats};
 
 use crate::copies::push_copies;
 use dk_bytes::{
-    Cursor, SegError, is_present, is_same, plain_len, present_count, put_u16, put_u32, put_value,
-    read_value, split_present,
+    Cursor, SegError, cut_if_failed, is_present, is_same, plain_len, present_count, put_u16,
+    put_u32, put_value, read_value, split_present,
 };
-use dk_types::{ColType, OutOfMemory, Value};
+use dk_values::{ColType, OutOfMemory, Value};
 use std::alloc::Global;
 
 /// A value, and how often it stands one after the other.
@@ -35,7 +35,7 @@ fn front_len(first: &Value, values: &[Value]) -> usize
 }
 
 /// How often the first value stands before another one, and the values from that one on.
-#[tactic(auto, using(crate::proofs::Runs::first_run))]
+#[tactic(auto, using(crate::proofs::RunLemmas::first_run))]
 fn split_run<'a>(first: &Value, rest: &'a [Value]) -> (usize, &'a [Value])
     ensures run { runs_of (first.now ∷ present rest.now) ≡ run_of first.now result.0 ∷ runs_of (present result.1.now) }
     ensures within { result.0 + length result.1.now ≤ length rest.now + 1 }
@@ -59,7 +59,9 @@ pub fn size(values: &[Value], kind: ColType) -> Option<usize>
 
 /// How long the runs behind their number are.
 fn runs_len(values: &[Value], kind: ColType) -> Option<usize>
-    ensures held { IsSome result ↔ (AllByRecursion (IsRun kind) (runs_of (present values.now)) × (length (runs_of (present values.now)) < 2 ^ 32)) }
+    ensures held { IsSome result
+        ↔ (AllByRecursion (IsRun kind) (runs_of (present values.now))
+        × (length (runs_of (present values.now)) < 2 ^ 32)) }
     ensures length { IfSome result (λ n. n ≡ length (flat_map run_bytes (runs_of (present values.now)))) }
     ensures small { IfSome result (λ n. n < 2 ^ 63) }
 {
@@ -100,12 +102,10 @@ pub fn encode(values: &[Value], kind: ColType, out: &mut Vec<u8>) -> Result<(), 
 {
     let start = out.len();
     let put = put_body(values, kind, out);
-    if put.is_err() {
-        out.truncate(start);
-    }
-    put
+    cut_if_failed(out, start, put)
 }
 
+/// Appends the body. Without memory a part of it may have been appended.
 fn put_body(values: &[Value], kind: ColType, out: &mut Vec<u8>) -> Result<(), OutOfMemory>
     requires { HasRuns kind (present values.now) }
     ensures ok { OnOk result (out.new.items ≡ out.old.items ++ run_length_bytes (present values.now)) }
@@ -115,6 +115,7 @@ fn put_body(values: &[Value], kind: ColType, out: &mut Vec<u8>) -> Result<(), Ou
     put_runs(values, kind, out)
 }
 
+/// Appends the runs. Without memory some of them may have been appended.
 fn put_runs(values: &[Value], kind: ColType, out: &mut Vec<u8>) -> Result<(), OutOfMemory>
     requires { AllByRecursion (IsRun kind) (runs_of (present values.now)) }
     ensures ok { OnOk result (out.new.items ≡ out.old.items ++ flat_map run_bytes (runs_of (present values.now))) }
@@ -137,13 +138,16 @@ pub fn decode(
     kind: ColType,
     count: usize,
 ) -> Result<Vec<Value>, SegError>
-    ensures found { IfOk result (λ v. (length v.items ≡ count) × HasRuns kind v.items × (bytes.now ≡ run_length_bytes v.items)) }
-    ensures only { (values : List Value) → length values ≡ count → HasRuns kind values → bytes.now ≡ run_length_bytes values → Gives (λ v. v.items) result (Ok values) }
+    ensures found { IfOk result (λ v. (length v.items ≡ count) × HasRuns kind v.items
+        × (bytes.now ≡ run_length_bytes v.items)) }
+    ensures only { (values : List Value) → length values ≡ count → HasRuns kind values
+        → bytes.now ≡ run_length_bytes values → Gives (λ v. v.items) result (Ok values) }
     ensures place { Gives (λ v. v.items) result (run_length_at kind count bytes.now) }
 {
     read(alloc, bytes, kind, count)
 }
 
+/// The values, or the first fault.
 #[tactic(auto, unfolding(crate::specs::RunLength::run_length_at))]
 fn read(alloc: Global, bytes: &[u8], kind: ColType, count: usize) -> Result<Vec<Value>, SegError>
     ensures { Gives (λ v. v.items) result (run_length_at kind count bytes.now) }
@@ -165,6 +169,7 @@ fn read(alloc: Global, bytes: &[u8], kind: ColType, count: usize) -> Result<Vec<
     Ok(expand(alloc, runs.as_slice())?)
 }
 
+/// So many runs, one behind the other.
 fn read_runs(
     alloc: Global,
     cursor: &mut Cursor,
@@ -183,6 +188,7 @@ fn read_runs(
     Ok(runs)
 }
 
+/// The run that stands next, behind these.
 #[tactic(auto, unfolding(crate::specs::RunLength::run_at))]
 fn read_run(
     alloc: Global,
@@ -228,6 +234,7 @@ fn total(runs: &[Run]) -> u64
     sum
 }
 
+/// The values that the runs stand for.
 fn expand(alloc: Global, runs: &[Run]) -> Result<Vec<Value>, OutOfMemory>
     ensures { IfOk result (λ v. v.items ≡ expanded runs.now) }
 {

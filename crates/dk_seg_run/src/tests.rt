@@ -1,6 +1,7 @@
+//! Bodies that are spelled out, read again, and the place of the first fault of each.
 use crate::{constant, run_length};
 use dk_bytes::SegError;
-use dk_types::{ColType, List, Value};
+use dk_values::{ColType, List, Value};
 use std::test::Fail;
 
 fn text(rt: &impl AllocGlobal, bytes: &[u8]) -> Result<Value, Fail> {

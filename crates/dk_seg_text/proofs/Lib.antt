@@ -1,8 +1,8 @@
-pub mod Values
-pub mod Seen
-pub mod Codes
-pub mod Measures
-pub mod Distinct
-pub mod Again
-pub mod Found
-pub mod TextsWithin
+pub mod ValueLemmas
+pub mod TextLemmas
+pub mod CodeLemmas
+pub mod MeasureLemmas
+pub mod EntryLemmas
+pub mod RoundTripLemmas
+pub mod DecodeLemmas
+pub mod TextFaultLemmas

@@ -2,15 +2,14 @@
 use Rattle.std.specs.Prelude.{◌≡◌, ℕ, zero, suc, ◌+◌, ◌-◌, ◌*◌, ◌<◌, ◌^◌, ◌==◌, Bool, true, false, ◌||◌, not, List, [], ◌∷◌, ◌++◌, length, map, fold, bytes_eq, nat_lt, slice_index_or, Option, Some, None, Result, Ok, Err, if◌then◌else◌}
 use Rattle.std.specs.List.{AllByRecursion, flat_map, list_any, position_or_len}
 use Rattle.std.specs.Int.{w8, w16, to_le_bytes}
-use Rattle.dk_types.specs.declared.value.ColType.{ColType}
-use Rattle.dk_types.specs.declared.value.ColType.TheVariants as types
-use Rattle.dk_types.specs.declared.value.Value.{Value}
-use Rattle.dk_types.specs.declared.value.Value.TheVariants as values
+use Rattle.dk_values.specs.declared.value.ColType.{ColType}
+use Rattle.dk_values.specs.declared.value.ColType.TheVariants as types
+use Rattle.dk_values.specs.declared.value.Value.{Value}
+use Rattle.dk_values.specs.declared.value.Value.TheVariants as values
 use Rattle.dk_bytes.specs.Fields.{Place, bytes_at, number_at}
 use Rattle.dk_bytes.specs.PlainValue.{IsPlain, text_at}
-use Rattle.dk_bytes.specs.Reading.{◌>>=◌, start, whole}
+use Rattle.dk_bytes.specs.Reading.{◌>>=◌, start, whole, or_fault}
 use Rattle.dk_seg_pack.specs.Bits.{bit_width, byte_count, packed, numbers_in}
-use Rattle.dk_seg_pack.specs.Packed.{or_fault}
 
 abbrev pub text_of : Value → List ℕ
 text_of (values.Text text) = text
@@ -50,7 +49,9 @@ entry_bytes text = to_le_bytes w16 (length text) ++ text
 -- how many entries, the entries, the width, and the codes
 abbrev pub body_with : List (List ℕ) → List ℕ → List ℕ
 body_with entries codes =
-    to_le_bytes w16 (length entries) ++ (flat_map entry_bytes entries ++ (code_width (length entries) ∷ packed (code_width (length entries)) codes))
+    to_le_bytes w16 (length entries)
+    ++ (flat_map entry_bytes entries
+    ++ (code_width (length entries) ∷ packed (code_width (length entries)) codes))
 
 abbrev pub dictionary_body : List (List ℕ) → List ℕ
 dictionary_body texts = body_with (entries_of texts) (codes_behind [] texts)

@@ -1,8 +1,8 @@
 -- The bodies of segments that have each value as it is.
 use Rattle.std.specs.Prelude.{ℕ, zero, suc, ◌<◌, ◌^◌, List, [], ◌∷◌, length, Result, Ok}
 use Rattle.std.specs.List.{AllByRecursion, flat_map}
-use Rattle.dk_types.specs.declared.value.ColType.{ColType}
-use Rattle.dk_types.specs.declared.value.Value.{Value}
+use Rattle.dk_values.specs.declared.value.ColType.{ColType}
+use Rattle.dk_values.specs.declared.value.Value.{Value}
 use Rattle.dk_bytes.specs.Fields.{Place}
 use Rattle.dk_bytes.specs.PlainValue.{IsPlain, plain_bytes, value_at}
 use Rattle.dk_bytes.specs.Reading.{◌>>=◌, start, whole}

@@ -4,25 +4,27 @@
 ghost use Rattle.std.specs.Prelude.{◌≡◌, ◌++◌, ◌↔◌, ◌≤◌, ◌<◌, ◌+◌, ◌-◌, ◌^◌, ℕ, List, [], ◌∷◌, ◌*◌, ◌&&◌, ◌||◌, not, Some, None, true, false, length, take, map, option_map, bytes_eq, Ok, IsSome, IsTrue, IfSome, IfOk, OnOk, OnErr};
 ghost use Rattle.std.specs.List.{AllByRecursion, flat_map, list_any};
 ghost use Rattle.dk_seg_pack.specs.Bits.{packed};
-ghost use Rattle.std.specs.Str.{is_utf8};
-ghost use Rattle.dk_types.specs.declared.value.Value.{Value};
-ghost use Rattle.dk_types.specs.declared.value.Value.TheVariants as values;
-ghost use Rattle.dk_types.specs.declared.value.ColType.TheVariants as types;
+ghost use Rattle.dk_values.specs.declared.value.Value.{Value};
+ghost use Rattle.dk_values.specs.declared.value.Value.TheVariants as values;
+ghost use Rattle.dk_values.specs.declared.value.ColType.TheVariants as types;
 ghost use Rattle.dk_bytes.specs.PlainValue.{IsPlain, is_present, present, text_at};
 ghost use Rattle.dk_bytes.specs.Reading.{Gives};
+ghost use Rattle.dk_seg_text.specs.declared.dictionary.TheConstants.{MAX_ENTRIES};
 ghost use Rattle.dk_seg_text.specs.Dictionary.{text_of, is_entry, entries_of, codes_behind, code_width, entry_bytes, dictionary_bytes, IsDictionary, entry_at, entries_at, used_behind, are_all_used, text_with, texts_with, codes_at, width_at, texts_at, is_text, dictionary_at};
 
 use crate::entries::Entries;
 use dk_bytes::{
-    Cursor, SegError, is_present, plain_len, present_count, put_u8, put_u16, split_present,
+    Cursor, SegError, are_plain, cut_if_failed, is_present, present_count, put_u8, put_u16,
+    split_present, take_text,
 };
 use dk_seg_pack::numbers::{bit_width, byte_count, pack, take_packed, unpack};
-use dk_types::{ColType, List, OutOfMemory, Value};
+use dk_values::{ColType, List, OutOfMemory, Value};
 use std::alloc::Global;
 
 /// The most entries that a body may have.
 const MAX_ENTRIES: usize = 65_535;
 
+/// The bytes of a text, and none of another value.
 fn text_of(value: &Value) -> &[u8]
     ensures { result.now ≡ text_of value.now }
 {
@@ -32,6 +34,7 @@ fn text_of(value: &Value) -> &[u8]
     }
 }
 
+/// Whether the type is that of texts.
 fn is_text(kind: ColType) -> bool
     ensures { result ≡ is_text kind }
 {
@@ -49,9 +52,9 @@ fn code_width(entry_count: usize) -> u32
     bit_width(entry_count.saturating_sub(1) as u64)
 }
 
-/// How long the body of these values is, if they are texts of which at most 65,535 are different. It takes no memory, and
-/// so compares each text with those before it.
-#[tactic(auto, using(crate::proofs::Measures::dictionary_len))]
+/// How long the body of these values is, if they are texts of which at most 65,535 are different. It takes no
+/// memory, and so compares each text with those before it.
+#[tactic(auto, using(crate::proofs::MeasureLemmas::dictionary_len))]
 pub fn size(values: &[Value], kind: ColType) -> Option<usize>
     ensures held { IsSome result ↔ IsDictionary kind (present values.now) }
     ensures length { IfSome result (λ n. n ≡ length (dictionary_bytes (present values.now))) }
@@ -64,7 +67,7 @@ pub fn size(values: &[Value], kind: ColType) -> Option<usize>
 }
 
 /// What `size` answers, in a time that grows with the bytes of the values alone.
-#[tactic(auto, using(crate::proofs::Measures::dictionary_len))]
+#[tactic(auto, using(crate::proofs::MeasureLemmas::dictionary_len))]
 pub fn size_in(alloc: Global, values: &[Value], kind: ColType) -> Result<Option<usize>, OutOfMemory>
     ensures held { IfOk result (λ size. IsSome size ↔ IsDictionary kind (present values.now)) }
     ensures length { IfOk result (λ size. IfSome size (λ n. n ≡ length (dictionary_bytes (present values.now)))) }
@@ -80,25 +83,14 @@ pub fn size_in(alloc: Global, values: &[Value], kind: ColType) -> Result<Option<
 
 /// Whether these are texts, at least one.
 fn has_texts(values: &[Value], kind: ColType) -> bool
-    ensures { IsTrue result ↔ ((kind ≡ types.Text) × (0 < length (present values.now)) × AllByRecursion (IsPlain types.Text) (present values.now)) }
+    ensures { IsTrue result
+        ↔ ((kind ≡ types.Text) × (0 < length (present values.now))
+        × AllByRecursion (IsPlain types.Text) (present values.now)) }
 {
-    present_count(values) > 0 && is_text(kind) && are_texts(values)
+    present_count(values) > 0 && is_text(kind) && are_plain(values, ColType::Text)
 }
 
-/// Whether all that are present are texts.
-fn are_texts(values: &[Value]) -> bool
-    ensures { IsTrue result ↔ AllByRecursion (IsPlain types.Text) (present values.now) }
-{
-    let mut left = values;
-    'values: while let Some((value, rest)) = split_present(left) {
-        if plain_len(value, ColType::Text).is_none() {
-            return false;
-        }
-        left = rest;
-    }
-    true
-}
-
+/// Whether the text is one of these values.
 fn is_among(values: &[Value], text: &[u8]) -> bool
     ensures { result ≡ list_any (λ value. is_present value && bytes_eq text.now (text_of value)) values.now }
 {
@@ -108,7 +100,7 @@ fn is_among(values: &[Value], text: &[u8]) -> bool
 }
 
 /// Whether the text is an entry of the values that are present.
-#[tactic(auto, using(crate::proofs::Measures::known_is))]
+#[tactic(auto, using(crate::proofs::MeasureLemmas::known_is))]
 fn is_entry(values: &[Value], text: &[u8]) -> bool
     ensures { result ≡ is_entry (entries_of (map text_of (present values.now))) text.now }
 {
@@ -127,7 +119,8 @@ fn measure(values: &[Value]) -> Option<(usize, usize)>
     requires { AllByRecursion (IsPlain types.Text) (present values.now) }
     ensures held { IsSome result ↔ (length (entries_of (map text_of (present values.now))) < 2 ^ 16) }
     ensures count { IfSome result (λ m. m.0 ≡ length (entries_of (map text_of (present values.now)))) }
-    ensures length { IfSome result (λ m. m.1 ≡ length (flat_map entry_bytes (entries_of (map text_of (present values.now))))) }
+    ensures length { IfSome result (λ m. m.1
+        ≡ length (flat_map entry_bytes (entries_of (map text_of (present values.now))))) }
     ensures small { IfSome result (λ m. m.1 < 2 ^ 33) }
 {
     let mut count = 0usize;
@@ -149,7 +142,8 @@ fn measure_in(alloc: Global, values: &[Value]) -> Result<Option<(usize, usize)>,
     requires { AllByRecursion (IsPlain types.Text) (present values.now) }
     ensures held { IfOk result (λ m. IsSome m ↔ (length (entries_of (map text_of (present values.now))) < 2 ^ 16)) }
     ensures count { IfOk result (λ m. IfSome m (λ m. m.0 ≡ length (entries_of (map text_of (present values.now))))) }
-    ensures length { IfOk result (λ m. IfSome m (λ m. m.1 ≡ length (flat_map entry_bytes (entries_of (map text_of (present values.now)))))) }
+    ensures length { IfOk result (λ m. IfSome m (λ m. m.1
+        ≡ length (flat_map entry_bytes (entries_of (map text_of (present values.now)))))) }
     ensures small { IfOk result (λ m. IfSome m (λ m. m.1 < 2 ^ 33)) }
 {
     let mut entries = Entries::new(alloc);
@@ -171,12 +165,12 @@ fn measure_in(alloc: Global, values: &[Value]) -> Result<Option<(usize, usize)>,
 
 /// The number of texts and of their bytes with one more text, if it is a new one, and if there may be one more.
 fn with_text(count: usize, len: usize, is_known: bool, text: &[u8]) -> Option<(usize, usize)>
-    requires count { count ≤ 65535 }
+    requires count { count ≤ MAX_ENTRIES }
     requires len { len ≤ 65537 * count }
     requires text { length text.now < 2 ^ 16 }
     ensures known { is_known ≡ true → result ≡ Some (count, len) }
-    ensures fresh { is_known ≡ false → count < 65535 → result ≡ Some (count + 1, len + (2 + length text.now)) }
-    ensures full { is_known ≡ false → count ≡ 65535 → result ≡ None }
+    ensures fresh { is_known ≡ false → count < MAX_ENTRIES → result ≡ Some (count + 1, len + (2 + length text.now)) }
+    ensures full { is_known ≡ false → count ≡ MAX_ENTRIES → result ≡ None }
 {
     if is_known {
         return Some((count, len));
@@ -193,12 +187,9 @@ pub fn encode(values: &[Value], kind: ColType, out: &mut Vec<u8>) -> Result<(), 
     ensures ok { OnOk result (out.new.items ≡ out.old.items ++ dictionary_bytes (present values.now)) }
     ensures err { OnErr result (out.new.items ≡ out.old.items) }
 {
-    let before = out.len();
-    let done = put_body(values, out);
-    if done.is_err() {
-        out.truncate(before);
-    }
-    done
+    let start = out.len();
+    let put = put_body(values, out);
+    cut_if_failed(out, start, put)
 }
 
 /// Appends the body. Without memory a part of it may have been appended.
@@ -215,7 +206,8 @@ fn put_body(values: &[Value], out: &mut Vec<u8>) -> Result<(), OutOfMemory>
 /// Appends the width and the codes. Without memory a part of them may have been appended.
 fn put_codes(out: &mut Vec<u8>, entry_count: usize, codes: &[u64]) -> Result<(), OutOfMemory>
     requires { AllByRecursion (λ code. code < entry_count) codes.now }
-    ensures ok { OnOk result (out.new.items ≡ out.old.items ++ (code_width entry_count ∷ packed (code_width entry_count) codes.now)) }
+    ensures ok { OnOk result (out.new.items
+        ≡ out.old.items ++ (code_width entry_count ∷ packed (code_width entry_count) codes.now)) }
     ensures kept { take (length out.old.items) out.new.items ≡ out.old.items }
 {
     let width = code_width(entry_count);
@@ -239,28 +231,6 @@ fn coded<'a>(alloc: Global, values: &'a [Value]) -> Result<(Entries<'a>, Vec<u64
     Ok((entries, codes))
 }
 
-/// Lends the text that stands next.
-#[tactic(auto, unfolding(dk_bytes::specs::PlainValue::text_at))]
-fn take_text<'a>(cursor: &mut Cursor<'a>) -> Result<&'a [u8], SegError>
-    ensures { Gives (λ text. (values.Text text.now, cursor.new)) result (text_at cursor.old) }
-{
-    let len = cursor.u16()?;
-    let at = cursor.at();
-    let text = cursor.take(len as usize)?;
-    if is_utf8(text) {
-        Ok(text)
-    } else {
-        Err(SegError::Malformed { at })
-    }
-}
-
-#[tactic(auto, using(dk_bytes::proofs::Text::tests_utf8))]
-fn is_utf8(bytes: &[u8]) -> bool
-    ensures { result ≡ is_utf8 bytes.now }
-{
-    simdutf8::is_utf8(bytes)
-}
-
 /// Reads one more entry, which must be none of those before.
 #[tactic(auto, unfolding(crate::specs::Dictionary::entry_at))]
 fn read_entry<'a>(cursor: &mut Cursor<'a>, entries: &mut Entries<'a>) -> Result<(), SegError>
@@ -275,6 +245,7 @@ fn read_entry<'a>(cursor: &mut Cursor<'a>, entries: &mut Entries<'a>) -> Result<
     }
 }
 
+/// So many entries, one behind the other, none of them twice.
 fn read_entries<'a>(
     alloc: Global,
     cursor: &mut Cursor<'a>,
@@ -305,6 +276,7 @@ fn are_all_used(codes: &[u64], count: usize) -> bool
     used == count as u64
 }
 
+/// The texts of the codes.
 fn texts(alloc: Global, entries: &Entries, codes: &[u64]) -> Result<Vec<Value>, OutOfMemory>
     ensures { IfOk result (λ v. v.items ≡ map (text_with entries.now) codes.now) }
 {
@@ -322,7 +294,8 @@ fn texts_with(
     entries: &Entries,
     codes: &Option<Vec<u64>>,
 ) -> Result<Option<Vec<Value>>, OutOfMemory>
-    ensures { IfOk result (λ values. option_map (λ v. v.items) values ≡ texts_with entries.now (option_map (λ v. v.items) codes.now)) }
+    ensures { IfOk result (λ values. option_map (λ v. v.items) values
+        ≡ texts_with entries.now (option_map (λ v. v.items) codes.now)) }
 {
     match codes {
         Some(codes) if are_all_used(codes, entries.len()) => Ok(Some(texts(
@@ -332,6 +305,7 @@ fn texts_with(
     }
 }
 
+/// The codes, as values.
 #[tactic(auto, unfolding(crate::specs::Dictionary::codes_at))]
 fn read_codes(
     alloc: Global,
@@ -352,6 +326,7 @@ fn read_codes(
     }
 }
 
+/// The width and the codes, as values.
 #[tactic(auto, unfolding(crate::specs::Dictionary::width_at))]
 fn read_width(
     alloc: Global,
@@ -369,6 +344,7 @@ fn read_width(
     read_codes(alloc, cursor, entries, width, count)
 }
 
+/// The entries, the width and the codes, as values.
 #[tactic(auto, unfolding(crate::specs::Dictionary::texts_at))]
 fn read_texts(alloc: Global, cursor: &mut Cursor, count: usize) -> Result<Vec<Value>, SegError>
     ensures { Gives (λ v. (v.items, cursor.new)) result (texts_at count cursor.old) }
@@ -382,6 +358,7 @@ fn read_texts(alloc: Global, cursor: &mut Cursor, count: usize) -> Result<Vec<Va
     read_width(alloc, cursor, &entries, count)
 }
 
+/// The values, or the first fault.
 #[tactic(auto, unfolding(crate::specs::Dictionary::dictionary_at))]
 fn read(alloc: Global, bytes: &[u8], kind: ColType, count: usize) -> Result<Vec<Value>, SegError>
     ensures { Gives (λ v. v.items) result (dictionary_at kind count bytes.now) }
@@ -404,8 +381,10 @@ pub fn decode(
     kind: ColType,
     count: usize,
 ) -> Result<Vec<Value>, SegError>
-    ensures found { IfOk result (λ v. (length v.items ≡ count) × IsDictionary kind v.items × (bytes.now ≡ dictionary_bytes v.items)) }
-    ensures only { (values : List Value) → length values ≡ count → IsDictionary kind values → bytes.now ≡ dictionary_bytes values → Gives (λ v. v.items) result (Ok values) }
+    ensures found { IfOk result (λ v. (length v.items ≡ count) × IsDictionary kind v.items
+        × (bytes.now ≡ dictionary_bytes v.items)) }
+    ensures only { (values : List Value) → length values ≡ count → IsDictionary kind values
+        → bytes.now ≡ dictionary_bytes values → Gives (λ v. v.items) result (Ok values) }
     ensures place { Gives (λ v. v.items) result (dictionary_at kind count bytes.now) }
 {
     read(alloc, bytes, kind, count)

@@ -1,9 +1,10 @@
+//! The entries of a dictionary while it is made or read.
 ghost use Rattle.std.specs.List.{flat_map};
 ghost use Rattle.std.specs.Prelude.{◌≡◌, ◌++◌, ◌<◌, ◌^◌, [], take, not, length, slice_index_or, IfOk, OnOk};
 ghost use Rattle.dk_seg_text.specs.Dictionary.{is_entry, with_entry, code_of, entry_bytes};
 
 use dk_bytes::put_u16;
-use dk_types::OutOfMemory;
+use dk_values::OutOfMemory;
 use indexmap::IndexSet;
 use std::alloc::Global;
 use std::marker::Model;

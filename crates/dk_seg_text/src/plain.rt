@@ -2,13 +2,13 @@
 
 ghost use Rattle.std.specs.Prelude.{◌≡◌, ◌++◌, ◌↔◌, List, length, take, Ok, IsSome, IfSome, IfOk, OnOk, OnErr};
 ghost use Rattle.std.specs.List.{AllByRecursion};
-ghost use Rattle.dk_types.specs.declared.value.Value.{Value};
+ghost use Rattle.dk_values.specs.declared.value.Value.{Value};
 ghost use Rattle.dk_bytes.specs.PlainValue.{IsPlain, present};
 ghost use Rattle.dk_bytes.specs.Reading.{Gives};
 ghost use Rattle.dk_seg_text.specs.Plain.{ArePlain, plain_body, values_at, plain_at};
 
-use dk_bytes::{Cursor, SegError, plain_len, put_value, read_value, split_present};
-use dk_types::{ColType, OutOfMemory, Value};
+use dk_bytes::{Cursor, SegError, cut_if_failed, plain_len, put_value, read_value, split_present};
+use dk_values::{ColType, OutOfMemory, Value};
 use std::alloc::Global;
 
 /// How long the body of these values is, if all are of the type.
@@ -32,12 +32,9 @@ pub fn encode(values: &[Value], kind: ColType, out: &mut Vec<u8>) -> Result<(), 
     ensures ok { OnOk result (out.new.items ≡ out.old.items ++ plain_body (present values.now)) }
     ensures err { OnErr result (out.new.items ≡ out.old.items) }
 {
-    let before = out.len();
-    let done = put_values(values, kind, out);
-    if done.is_err() {
-        out.truncate(before);
-    }
-    done
+    let start = out.len();
+    let put = put_values(values, kind, out);
+    cut_if_failed(out, start, put)
 }
 
 /// Appends the values. Without memory some of them may have been appended.
@@ -65,13 +62,16 @@ pub fn decode(
     kind: ColType,
     count: usize,
 ) -> Result<Vec<Value>, SegError>
-    ensures found { IfOk result (λ v. (length v.items ≡ count) × ArePlain kind v.items × (bytes.now ≡ plain_body v.items)) }
-    ensures only { (values : List Value) → length values ≡ count → ArePlain kind values → bytes.now ≡ plain_body values → Gives (λ v. v.items) result (Ok values) }
+    ensures found { IfOk result (λ v. (length v.items ≡ count) × ArePlain kind v.items
+        × (bytes.now ≡ plain_body v.items)) }
+    ensures only { (values : List Value) → length values ≡ count → ArePlain kind values
+        → bytes.now ≡ plain_body values → Gives (λ v. v.items) result (Ok values) }
     ensures place { Gives (λ v. v.items) result (plain_at kind count bytes.now) }
 {
     read(alloc, bytes, kind, count)
 }
 
+/// The values, or the first fault.
 fn read(alloc: Global, bytes: &[u8], kind: ColType, count: usize) -> Result<Vec<Value>, SegError>
     ensures { Gives (λ v. v.items) result (plain_at kind count bytes.now) }
 {
@@ -83,6 +83,7 @@ fn read(alloc: Global, bytes: &[u8], kind: ColType, count: usize) -> Result<Vec<
     Ok(values)
 }
 
+/// So many values, one behind the other.
 fn read_values(
     alloc: Global,
     cursor: &mut Cursor,

@@ -1,6 +1,7 @@
+//! Bodies that are spelled out, read again, and the place of the first fault of each.
 use super::*;
 use dk_bytes::SegError;
-use dk_types::{ColType, List, OutOfMemory, Value};
+use dk_values::{ColType, List, OutOfMemory, Value};
 use std::alloc::Global;
 use std::process::Abort;
 use std::test::*;

@@ -1,4 +1,4 @@
-pub mod BodyLaws
-pub mod NullLaws
-pub mod ChoiceLaws
-pub mod SegmentLaws
+pub mod BodyLemmas
+pub mod NullLemmas
+pub mod ChoiceLemmas
+pub mod SegmentLemmas

@@ -1,8 +1,8 @@
 -- The five encodings: which values each holds, the body, and reading it.
 use Rattle.std.specs.Prelude.{◌≡◌, ℕ, Bool, true, false, List, [], Option, Some, None, Result, Ok, Err, ◌==◌, if◌then◌else◌}
-use Rattle.dk_types.specs.declared.value.ColType.{ColType}
-use Rattle.dk_types.specs.declared.value.ColType.TheVariants as types
-use Rattle.dk_types.specs.declared.value.Value.{Value}
+use Rattle.dk_values.specs.declared.value.ColType.{ColType}
+use Rattle.dk_values.specs.declared.value.ColType.TheVariants as types
+use Rattle.dk_values.specs.declared.value.Value.{Value}
 use Rattle.dk_seg_run.specs.Constant.{IsConstant, constant_bytes, constant_at}
 use Rattle.dk_seg_run.specs.RunLength.{HasRuns, run_length_bytes, run_length_at}
 use Rattle.dk_seg_pack.specs.Packed.{IsPacked, packed_bytes, packed_at}

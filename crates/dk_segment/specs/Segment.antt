@@ -2,15 +2,15 @@
 use Rattle.std.specs.Prelude.{◌≡◌, ℕ, ◌+◌, ◌-◌, ◌*◌, ◌≤◌, Bool, true, false, ◌&&◌, ◌||◌, not, List, [], ◌∷◌, ◌++◌, length, map, count_by, Option, Some, None, Result, Ok, Err, ◌==◌, nat_lt, nat_le, if◌then◌else◌}
 use Rattle.std.specs.List.{AllByRecursion, list_all, list_any}
 use Rattle.std.specs.Int.{w8, w32, to_le_bytes}
-use Rattle.dk_types.specs.declared.value.ColType.{ColType}
-use Rattle.dk_types.specs.declared.value.Value.{Value}
-use Rattle.dk_types.specs.declared.value.Value.TheVariants as cell
+use Rattle.dk_values.specs.declared.value.ColType.{ColType}
+use Rattle.dk_values.specs.declared.value.Value.{Value}
+use Rattle.dk_values.specs.declared.value.Value.TheVariants as cell
 use Rattle.dk_bytes.specs.Fields.{Place, bytes_at, number_at}
 use Rattle.dk_bytes.specs.PlainValue.{IsPlain, is_present, present}
-use Rattle.dk_bytes.specs.Reading.{◌>>=◌, start}
+use Rattle.dk_bytes.specs.Reading.{◌>>=◌, start, or_fault}
 use Rattle.dk_seg_pack.specs.Bits.{byte_count, packed, numbers_in}
-use Rattle.dk_seg_pack.specs.Packed.{or_fault}
 use Rattle.dk_segment.specs.declared.encoding.Encoding.{Encoding}
+use Rattle.dk_segment.specs.declared.present.TheConstants.{MAX_VALUES}
 use Rattle.dk_segment.specs.Bodies.{Holds, body_of, body_at, code_of, encoding_of, goes_with, is_plain}
 
 -- ---- values with nulls among them
@@ -23,7 +23,7 @@ IsCell kind value = IsPlain kind value
 -- what a segment can hold: 1 to 2,048 values, each null or of the type
 pub record IsColumn (kind : ColType) (values : List Value) : Type 0 where
   pub some : 1 ≤ length values
-  pub few : length values ≤ 2048
+  pub few : length values ≤ MAX_VALUES
   pub cells : AllByRecursion (IsCell kind) values
 
 -- bit i of the mask: 1 where value i is present
@@ -44,7 +44,8 @@ placed (value ∷ values) others = value ∷ others values
 -- the present values at their places, and nulls between them
 abbrev pub with_nulls : List ℕ → List Value → List Value
 with_nulls [] values = []
-with_nulls (flag ∷ flags) values = if flag == 1 then placed values (with_nulls flags) else cell.Null ∷ with_nulls flags values
+with_nulls (flag ∷ flags) values = if flag == 1 then placed values (with_nulls flags)
+    else cell.Null ∷ with_nulls flags values
 
 -- ---- the bytes
 
@@ -57,12 +58,13 @@ mask_bytes values = if list_all is_present values then [] else packed 1 (flags_o
 -- the encoding, whether a mask follows, the number of values, the mask, and the body of the present values
 abbrev pub segment_bytes : Encoding → List Value → List ℕ
 segment_bytes encoding values =
-    code_of encoding ∷ mask_flag values ∷ (to_le_bytes w32 (length values) ++ (mask_bytes values ++ body_of encoding (present values)))
+    code_of encoding ∷ mask_flag values
+    ∷ (to_le_bytes w32 (length values) ++ (mask_bytes values ++ body_of encoding (present values)))
 
 -- the bytes are a segment of the type, and stand for these values
 pub record IsSegment (kind : ColType) (encoding : Encoding) (values : List Value) (bytes : List ℕ) : Type 0 where
   pub some : 1 ≤ length values
-  pub few : length values ≤ 2048
+  pub few : length values ≤ MAX_VALUES
   pub holds : Holds encoding kind (present values)
   pub spelled : bytes ≡ segment_bytes encoding values
 
@@ -82,12 +84,13 @@ flag_at place = do
 unfoldable pub count_at : Place → Result (ℕ × Place) ℕ
 count_at place = do
   count ← number_at w32 place
-  if nat_le 1 count.0 && nat_le count.0 2048 then Ok count else Err place.at
+  if nat_le 1 count.0 && nat_le count.0 MAX_VALUES then Ok count else Err place.at
 
 -- a mask has a null, and a present value unless the encoding is plain
 abbrev pub mask_of : Encoding → Option (List ℕ) → Option (List ℕ)
 mask_of encoding None = None
-mask_of encoding (Some flags) = if list_any (λ flag. flag == 0) flags && (is_plain encoding || list_any (λ flag. flag == 1) flags) then Some flags else None
+mask_of encoding (Some flags) = if list_any (λ flag. flag == 0) flags
+    && (is_plain encoding || list_any (λ flag. flag == 1) flags) then Some flags else None
 
 unfoldable pub flags_at : Encoding → ℕ → Place → Result (List ℕ × Place) ℕ
 flags_at encoding count place = do
@@ -108,7 +111,8 @@ masked_at encoding kind count place = do
 
 abbrev pub values_at : Encoding → ColType → ℕ → ℕ × Place → Result (List Value) ℕ
 values_at encoding kind flag count =
-    if flag == 0 then moved count.1.at (body_at encoding kind count.0 count.1.rest) else masked_at encoding kind count.0 count.1
+    if flag == 0 then moved count.1.at (body_at encoding kind count.0 count.1.rest)
+    else masked_at encoding kind count.0 count.1
 
 -- the values that the bytes stand for as a segment of the type, or the place of the first fault
 unfoldable pub segment_at : ColType → List ℕ → Result (List Value) ℕ

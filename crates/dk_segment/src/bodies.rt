@@ -1,3 +1,4 @@
+//! The body of each encoding: its length, how it is appended, and how it is read.
 ghost use Rattle.std.specs.Prelude.{◌≡◌, ◌++◌, ◌↔◌, ◌≤◌, ℕ, length, IsSome, IfErr, IfSome, OnOk};
 ghost use Rattle.dk_bytes.specs.PlainValue.{present};
 ghost use Rattle.dk_bytes.specs.Reading.{Gives};
@@ -9,7 +10,7 @@ use dk_bytes::SegError;
 use dk_seg_pack::packed;
 use dk_seg_run::{constant, run_length};
 use dk_seg_text::{dictionary, plain};
-use dk_types::{ColType, OutOfMemory, Value};
+use dk_values::{ColType, OutOfMemory, Value};
 use std::alloc::Global;
 
 /// How long the body of the present values is, if the encoding can hold them.
@@ -46,7 +47,7 @@ pub(crate) fn put_body(
 }
 
 /// The present values that a body stands for; a fault stands at most at the body's end.
-#[tactic(auto, using(crate::proofs::BodyLaws::place_within))]
+#[tactic(auto, using(crate::proofs::BodyLemmas::place_within))]
 pub(crate) fn read_body(
     alloc: Global,
     encoding: Encoding,

@@ -1,3 +1,4 @@
+//! The choice of the smallest encoding.
 ghost use Rattle.std.specs.Prelude.{◌≡◌, ◌+◌, ◌↔◌, length, IsSome, IfSome};
 ghost use Rattle.dk_segment.specs.Bodies.{Holds, body_of};
 ghost use Rattle.dk_segment.specs.Choice.{IsBest, IsBestFrom, place_of};
@@ -6,7 +7,7 @@ ghost use Rattle.dk_bytes.specs.PlainValue.{present};
 
 use crate::bodies::body_size;
 use crate::encoding::Encoding;
-use dk_types::{ColType, Value};
+use dk_values::{ColType, Value};
 
 /// An encoding that holds the values, and the length of their body.
 #[derive(Clone, Copy)]

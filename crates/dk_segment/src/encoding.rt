@@ -1,7 +1,8 @@
+//! The five encodings, and the bytes that name them.
 ghost use Rattle.std.specs.Prelude.{◌≡◌, Option, Some, None};
 ghost use Rattle.dk_segment.specs.Bodies.{code_of, encoding_of, goes_with};
 
-use dk_types::ColType;
+use dk_values::ColType;
 
 /// How the present values of a segment are written. Of two encodings of one size the first is taken.
 #[derive(Clone, Copy, Debug, PartialEq, Eq)]

@@ -1,8 +1,9 @@
 //! Column segments: 1 to 2,048 values of one type, nulls among them, in the smallest of five encodings.
 //!
 //! `specs/Segment.antt` says which byte strings are segments of a type, and of which values; `decode` answers those
-//! values for exactly these strings, and the place of the first fault for all others. `encode` writes the encoding of
-//! least size that `analyse` names, ties to the first of `Encoding`. Stands on the crates of the encodings, `dk_bytes` and `dk_types`.
+//! values for exactly these strings, and the place of the first fault for all others. `encode` writes the encoding
+//! of least size that `analyse` names, ties to the first of `Encoding`. Stands on the crates of the encodings,
+//! `dk_bytes` and `dk_values`.
 #![tactic(auto)]
 
 mod bodies;

@@ -1,10 +1,11 @@
+//! What a segment can hold, and where its nulls stand.
 ghost use Rattle.std.specs.Prelude.{◌≡◌, ◌↔◌, map, IsTrue, IfOk};
 ghost use Rattle.std.specs.List.{AllByRecursion, list_all};
 ghost use Rattle.dk_bytes.specs.PlainValue.{is_present};
 ghost use Rattle.dk_segment.specs.Segment.{IsCell, IsColumn, flag_of, flags_of, with_nulls};
 
 use dk_bytes::{is_present, plain_len};
-use dk_types::{ColType, OutOfMemory, Value};
+use dk_values::{ColType, OutOfMemory, Value};
 use std::alloc::Global;
 
 /// The most values of a segment.

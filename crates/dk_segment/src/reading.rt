@@ -1,6 +1,7 @@
+//! How a segment is read, up to its first fault.
 ghost use Rattle.std.specs.Prelude.{◌≡◌, ◌==◌, ◌&&◌, ◌||◌, ◌<◌, ◌≤◌, ◌^◌, List, length, count_by, Ok, IfOk, Some};
 ghost use Rattle.std.specs.List.{list_any};
-ghost use Rattle.dk_types.specs.declared.value.Value.{Value};
+ghost use Rattle.dk_values.specs.declared.value.Value.{Value};
 ghost use Rattle.dk_bytes.specs.Reading.{Gives};
 ghost use Rattle.dk_segment.specs.declared.encoding.Encoding.{Encoding};
 ghost use Rattle.dk_segment.specs.Bodies.{is_plain, body_at};
@@ -11,13 +12,14 @@ use crate::encoding::{Encoding, encoding_of};
 use crate::present::{MAX_VALUES, with_nulls};
 use dk_bytes::{Cursor, SegError};
 use dk_seg_pack::numbers::unpack;
-use dk_types::{ColType, Value};
+use dk_values::{ColType, Value};
 use std::alloc::Global;
 
 /// The values that the bytes stand for as a segment of the type.
 pub fn decode(alloc: Global, bytes: &[u8], kind: ColType) -> Result<Vec<Value>, SegError>
     ensures found { IfOk result (λ v. (encoding : Encoding) × IsSegment kind encoding v.items bytes.now) }
-    ensures only { (encoding : Encoding) (values : List Value) → IsSegment kind encoding values bytes.now → Gives (λ v. v.items) result (Ok values) }
+    ensures only { (encoding : Encoding) (values : List Value) → IsSegment kind encoding values bytes.now
+        → Gives (λ v. v.items) result (Ok values) }
     ensures place { Gives (λ v. v.items) result (segment_at kind bytes.now) }
 {
     read(alloc, bytes, kind)
@@ -140,7 +142,8 @@ fn read_flags(
 
 /// Whether a null is there, and a present value unless the encoding is plain.
 fn is_mask(encoding: Encoding, flags: &[u64]) -> bool
-    ensures { result ≡ (list_any (λ flag. flag == 0) flags.now && (is_plain encoding || list_any (λ flag. flag == 1) flags.now)) }
+    ensures { result ≡ (list_any (λ flag. flag == 0) flags.now
+        && (is_plain encoding || list_any (λ flag. flag == 1) flags.now)) }
 {
     has(flags, 0) && (encoding == Encoding::Plain || has(flags, 1))
 }

@@ -1,6 +1,7 @@
+//! Segments of each encoding that are spelled out, the choice among them, and the place of the first fault.
 use crate::{Encoding, analyse, decode, encode, is_column};
 use dk_bytes::SegError;
-use dk_types::{ColType, List, Value};
+use dk_values::{ColType, List, Value};
 use std::process::Abort;
 use std::test::Fail;
 

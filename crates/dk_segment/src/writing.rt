@@ -1,3 +1,4 @@
+//! How a segment is written.
 ghost use Rattle.std.specs.Prelude.{◌≡◌, ◌++◌, ◌∷◌, length, IfOk, OnOk};
 ghost use Rattle.std.specs.List.{list_all};
 ghost use Rattle.std.specs.Int.{w32, to_le_bytes};
@@ -14,13 +15,14 @@ use crate::present::{are_present, flags_of};
 use dk_bytes::{put_u8, put_u32};
 use dk_seg_pack::numbers::pack;
 use dk_seg_text::dictionary;
-use dk_types::{ColType, OutOfMemory, Value};
+use dk_values::{ColType, OutOfMemory, Value};
 use std::alloc::Global;
 
 /// The segment of these values in the encoding of least size.
 pub fn encode(alloc: Global, values: &[Value], kind: ColType) -> Result<Vec<u8>, OutOfMemory>
     requires { IsColumn kind values.now }
-    ensures { IfOk result (λ v. (encoding : Encoding) × IsBest kind (present values.now) encoding × IsSegment kind encoding values.now v.items) }
+    ensures { IfOk result (λ v. (encoding : Encoding) × IsBest kind (present values.now) encoding
+        × IsSegment kind encoding values.now v.items) }
 {
     let dictionary = dictionary::size_in(alloc, values, kind)?;
     let encoding = best(values, kind, dictionary);

@@ -1,7 +1,7 @@
-pub mod Blocks
-pub mod Chunks
-pub mod Crosses
-pub mod Filled
-pub mod Memory
-pub mod Packed
-pub mod Sharing
+pub mod BlockLemmas
+pub mod ChunkLemmas
+pub mod SendSyncLemmas
+pub mod PlaceLemmas
+pub mod MemoryLemmas
+pub mod PackedLemmas
+pub mod SharingLemmas

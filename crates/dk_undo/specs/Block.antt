@@ -8,7 +8,8 @@ use Rattle.dk_undo.specs.declared.cells.Deed.{Deed}
 module _ {X : Type 0} where
   -- they are the parts of one block of n places from the allocator, all of them empty
   abbrev pub IsEmptyBlock : {A : Type 0} → Base X → Cells X → Deed X A → ℕ → A → Type 0
-  IsEmptyBlock base cells deed n alloc = (cells.at ≡ base.ptr) × (cells.slots ≡ replicate n None) × (deed.at ≡ base.ptr) × (deed.len ≡ n) × (deed.alloc ≡ alloc)
+  IsEmptyBlock base cells deed n alloc = (cells.at ≡ base.ptr) × (cells.slots ≡ replicate n None)
+      × (deed.at ≡ base.ptr) × (deed.len ≡ n) × (deed.alloc ≡ alloc)
 
   -- the block begins at the base, and has an empty place at the index
   abbrev pub HasEmptyPlace : Cells X → Base X → ℕ → Type 0

@@ -1,9 +1,10 @@
 -- How the entries of a stack lie in its chunks.
 use Rattle.std.specs.Prelude.{◌≡◌, ℕ, ◌-◌, ◌*◌, ◌^◌, ◌<◌, min, List, [], ◌∷◌, ◌++◌, length, map}
 use denote.RawPtr.{Ptr}
-use Rattle.dk_undo.specs.Held.{Held}
+use Rattle.dk_undo.specs.ChunkContent.{Held}
 use Rattle.dk_undo.specs.Stack.{Stack, stack}
 use Rattle.dk_undo.specs.declared.stack.UndoStack.TheInside.{Inside}
+use Rattle.dk_undo.specs.declared.chunk.TheConstants.{CHUNK_LEN}
 
 module _ {X : Type 0} where
   -- the items of the chunks, one after another
@@ -18,7 +19,7 @@ module _ {X : Type 0} where
   -- n entries fill the chunks from the front: each chunk has 64 until they are used up
   abbrev pub IsPacked : ℕ → List (Held X) → Type 0
   IsPacked n [] = n ≡ 0
-  IsPacked n (c ∷ cs) = (length c.items ≡ min n 64) × IsPacked (n - 64) cs
+  IsPacked n (c ∷ cs) = (length c.items ≡ min n CHUNK_LEN) × IsPacked (n - CHUNK_LEN) cs
 
   -- none of the chunks has an item
   abbrev pub AreEmpty : List (Held X) → Type 0
@@ -33,8 +34,8 @@ module _ {X : Type 0} where
     pub empty : AreEmpty added
 
   abbrev pub stack_view : Inside X → Stack X
-  stack_view s = stack (entries_of s.chunks.items) (64 * length s.chunks.items - s.len)
+  stack_view s = stack (entries_of s.chunks.items) (CHUNK_LEN * length s.chunks.items - s.len)
 
   pub record IsStack (s : Inside X) : Type 0 where
     pub packed : IsPacked s.len s.chunks.items
-    pub within : 64 * length s.chunks.items < 2 ^ 64
+    pub within : CHUNK_LEN * length s.chunks.items < 2 ^ 64

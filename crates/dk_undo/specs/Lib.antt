@@ -1,7 +1,7 @@
 pub mod Block
 pub mod Chain
 pub mod Chunk
-pub mod Held
+pub mod ChunkContent
 pub mod Ownership
 pub mod Places
 pub mod Stack

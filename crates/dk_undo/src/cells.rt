@@ -1,8 +1,8 @@
 //! The parts of a block, which is as Rust's `[MaybeUninit<T>]`: a row of places, each empty or holding a value.
 //!
-//! `Cells` owns the places and knows which are filled, and `Deed` is the right to give the block back. Neither is `Drop`,
-//! so a block is neither lost nor given back twice. A write asks for an empty place and a read for a filled one, so no
-//! value is written over, read twice or read before it is written.
+//! `Cells` owns the places and knows which are filled, and `Deed` is the right to give the block back. Neither is
+//! `Drop`, so a block is neither lost nor given back twice. A write asks for an empty place and a read for a filled
+//! one, so no value is written over, read twice or read before it is written.
 ghost use Rattle.std.specs.Prelude.{◌≡◌, ℕ, List, Option, Some, None, get_or, ⊤};
 ghost use base.Fml.{ftrue};
 ghost use denote.RawPtr.{Ptr};

@@ -1,5 +1,6 @@
 //! The chain of a stack's chunks: how entries go into it, and how it grows by empty chunks and gives them back.
 ghost use Rattle.std.specs.Prelude.{◌≡◌, ◌+◌, ◌*◌, ◌<◌, [], ◌∷◌, ◌++◌, length, slice_get, Some, IsOk, OnOk, OnErr, drop, take};
+ghost use Rattle.dk_undo.specs.declared.chunk.TheConstants.{CHUNK_LEN};
 ghost use Rattle.dk_undo.specs.Chain.{AreEmpty, Grows, IsPacked, entries_of, places_of};
 
 use crate::chunk::{CHUNK_LEN, Chunk};
@@ -8,7 +9,7 @@ use std::alloc::AllocError as OutOfMemory;
 /// Puts `entry` behind the `len` entries of the chunks. No chunk moves.
 pub(crate) fn put_last<T>(chunks: &mut Vec<Chunk<T>>, len: usize, entry: T)
     requires packed { IsPacked len chunks.old.items }
-    requires room { len < 64 * length chunks.old.items }
+    requires room { len < CHUNK_LEN * length chunks.old.items }
     ensures packed { IsPacked (len + 1) chunks.new.items }
     ensures entries { entries_of chunks.new.items ≡ entries_of chunks.old.items ++ entry ∷ [] }
     ensures places { places_of chunks.new.items ≡ places_of chunks.old.items }

@@ -1,5 +1,6 @@
 //! A chunk: a block of 64 places that is filled from the front and never moves.
 ghost use Rattle.std.specs.Prelude.{◌≡◌, ◌+◌, ◌<◌, [], ◌∷◌, ◌++◌, length, slice_get, Some, IfOk};
+ghost use Rattle.dk_undo.specs.declared.chunk.TheConstants.{CHUNK_LEN};
 
 use crate::block::{allocate, deallocate, fits_in_block};
 use crate::cells::{Base, Cells, Deed};
@@ -18,7 +19,7 @@ pub struct Chunk<T> {
 }
 
 impl<T> Model for Chunk<T> {
-    ghost use Rattle.dk_undo.specs.Held.{Held, held_code};
+    ghost use Rattle.dk_undo.specs.ChunkContent.{Held, held_code};
 
     ghost Value = { Held T };
 
@@ -51,7 +52,7 @@ impl<T> Chunk<T> {
     /// Puts `item` behind the others, into the first empty place, which is the one at `index`.
     pub(crate) fn put(&mut self, index: usize, item: T)
         requires behind { index ≡ length self.old.items }
-        requires room { index < 64 }
+        requires room { index < CHUNK_LEN }
         ensures items { self.new.items ≡ self.old.items ++ item ∷ [] }
         ensures place { self.new.place ≡ self.old.place }
     {

@@ -1,3 +1,4 @@
+//! Stacks that grow past a chunk, keep their entries in place, and end with and without entries.
 ghost use Rattle.std.specs.Prelude.{◌≤◌};
 
 use crate::UndoStack;

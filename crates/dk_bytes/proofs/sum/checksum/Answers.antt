@@ -1,5 +1,5 @@
 use Rattle.std.proofs.Common.{arith, rules}
-use Rattle.dk_bytes.proofs.ChecksumLaws.{checksum_told}
+use Rattle.dk_bytes.proofs.ChecksumLemmas.{checksum_told}
 use Rattle.dk_bytes.proofs.sum.checksum.Goals as goal
 
 pub returns-clause-tells : goal.returns-clause-tells

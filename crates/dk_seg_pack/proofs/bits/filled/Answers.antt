@@ -1,5 +1,5 @@
 use Rattle.std.proofs.Common.{arith, rules, ◌^◌, ◌<◌}
-use Rattle.dk_seg_pack.proofs.Words.{joined_below, joined_above}
+use Rattle.dk_seg_pack.proofs.WordLemmas.{joined_below, joined_above}
 use Rattle.dk_seg_pack.proofs.bits.filled.Goals as goal
 
 pub returns-clause-number : goal.returns-clause-number

@@ -1,5 +1,6 @@
-use Rattle.dk_seg_pack.proofs.Digits.{short_word}
+use Rattle.std.proofs.Common.{arith}
+use Rattle.dk_seg_pack.proofs.DigitLemmas.{short_word}
 use Rattle.dk_seg_pack.proofs.bits.split_word.Goals as goal
 
-pub returns-in_default : goal.returns-in_default
-returns-in_default c = short_word _ _ c.in_default.len_below c.last_word.ensures
+pub returns-then-bytes-lt8 : goal.returns-then-bytes-lt8
+returns-then-bytes-lt8 c = short_word _ _ (omega (arith, c.if-bytes-lt8.true)) c.last_word.ensures

@@ -1,6 +1,6 @@
 use Rattle.std.proofs.Common.{refl, rules, ◌<◌, ◌^◌}
 use Rattle.dk_seg_pack.specs.Bits.{bit_width}
-use Rattle.dk_seg_pack.proofs.Widths.{width_fits, width_least}
+use Rattle.dk_seg_pack.proofs.WidthLemmas.{width_fits, width_least}
 use Rattle.dk_seg_pack.proofs.numbers.bit_width.Goals as goal
 
 pub returns-clause-value : goal.returns-clause-value

@@ -1,5 +1,5 @@
 use Rattle.std.proofs.Common.{arith}
-use Rattle.dk_seg_pack.proofs.Packing.{one_taken, one_behind, some_behind}
+use Rattle.dk_seg_pack.proofs.PackingLemmas.{one_taken, one_behind, some_behind}
 use Rattle.dk_seg_pack.proofs.numbers.unpack.Goals as goal
 
 pub numbers-preserved : goal.numbers-preserved

@@ -1,8 +1,8 @@
 use Rattle.std.proofs.Common.{◌≡◌, List, length, arith}
-use Rattle.dk_types.specs.declared.value.Value.{Value}
-use Rattle.dk_bytes.proofs.Outcome.{gives_found, gives_only}
+use Rattle.dk_values.specs.declared.value.Value.{Value}
+use Rattle.dk_bytes.proofs.OutcomeLemmas.{gives_found, gives_only}
 use Rattle.dk_seg_pack.specs.Packed.{IsPacked, packed_bytes}
-use Rattle.dk_seg_pack.proofs.Reading.{body_taken, body_only}
+use Rattle.dk_seg_pack.proofs.DecodeLemmas.{body_taken, body_only}
 use Rattle.dk_seg_pack.proofs.packed.decode.Goals as goal
 
 pub returns-clause-found : goal.returns-clause-found

@@ -1,8 +1,8 @@
 use Rattle.std.proofs.Common.{◌≡◌, List, length, arith}
-use Rattle.dk_types.specs.declared.value.Value.{Value}
-use Rattle.dk_bytes.proofs.Outcome.{gives_found, gives_only}
+use Rattle.dk_values.specs.declared.value.Value.{Value}
+use Rattle.dk_bytes.proofs.OutcomeLemmas.{gives_found, gives_only}
 use Rattle.dk_seg_run.specs.Constant.{IsConstant, constant_bytes}
-use Rattle.dk_seg_run.proofs.ConstantFields.{body_found, body_only}
+use Rattle.dk_seg_run.proofs.ConstantLemmas.{body_found, body_only}
 use Rattle.dk_seg_run.proofs.constant.decode.Goals as goal
 
 pub returns-clause-found : goal.returns-clause-found

@@ -1,8 +1,8 @@
 use Rattle.std.proofs.Common.{◌≡◌, List, length, arith}
-use Rattle.dk_types.specs.declared.value.Value.{Value}
-use Rattle.dk_bytes.proofs.Outcome.{gives_found, gives_only}
+use Rattle.dk_values.specs.declared.value.Value.{Value}
+use Rattle.dk_bytes.proofs.OutcomeLemmas.{gives_found, gives_only}
 use Rattle.dk_seg_run.specs.RunLength.{HasRuns, run_length_bytes}
-use Rattle.dk_seg_run.proofs.RunFields.{body_found, body_only}
+use Rattle.dk_seg_run.proofs.RunBodyLemmas.{body_found, body_only}
 use Rattle.dk_seg_run.proofs.run_length.decode.Goals as goal
 
 pub returns-clause-found : goal.returns-clause-found

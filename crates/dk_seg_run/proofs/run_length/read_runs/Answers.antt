@@ -1,7 +1,7 @@
 use Rattle.std.proofs.Common.{arith, ◌+◌, ◌-◌, refl}
 use Rattle.std.proofs.lemmas.Result.{err_from_is_err_and}
-use Rattle.dk_bytes.proofs.Outcome.{fails_then}
-use Rattle.dk_seg_run.proofs.RunLoops.{one_run, failed_run}
+use Rattle.dk_bytes.proofs.OutcomeLemmas.{fails_then}
+use Rattle.dk_seg_run.proofs.RunLoopLemmas.{one_run, failed_run}
 use Rattle.dk_seg_run.proofs.run_length.read_runs.Goals as goal
 
 pub runs-preserved : goal.runs-preserved

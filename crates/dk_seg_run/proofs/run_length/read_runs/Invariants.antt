@@ -1,8 +1,8 @@
 use Rattle.std.proofs.Common.{◌≡◌, ◌-◌, ◌<◌, ◌≤◌, vec_len}
 use Rattle.dk_seg_run.specs.RunLength.{runs_at, last_of}
 use Rattle.std.specs.Prelude.{None}
-use Rattle.dk_seg_run.proofs.RunLoops.{with_front}
 use Rattle.dk_seg_run.proofs.run_length.read_runs.Given as goal
+use Rattle.dk_bytes.proofs.FrontLemmas.{with_front}
 
 abbrev pub invariant-runs : goal.invariant-runs
 invariant-runs l = record {

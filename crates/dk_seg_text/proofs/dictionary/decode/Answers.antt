@@ -1,9 +1,9 @@
 use Rattle.std.proofs.Common.{◌≡◌, List, length, arith}
-use Rattle.dk_types.specs.declared.value.Value.{Value}
-use Rattle.dk_bytes.proofs.Outcome.{gives_found, gives_only}
+use Rattle.dk_values.specs.declared.value.Value.{Value}
+use Rattle.dk_bytes.proofs.OutcomeLemmas.{gives_found, gives_only}
 use Rattle.dk_seg_text.specs.Dictionary.{IsDictionary, dictionary_bytes}
-use Rattle.dk_seg_text.proofs.Again.{body_only}
-use Rattle.dk_seg_text.proofs.Found.{body_found}
+use Rattle.dk_seg_text.proofs.RoundTripLemmas.{body_only}
+use Rattle.dk_seg_text.proofs.DecodeLemmas.{body_found}
 use Rattle.dk_seg_text.proofs.dictionary.decode.Goals as goal
 
 pub returns-clause-found : goal.returns-clause-found

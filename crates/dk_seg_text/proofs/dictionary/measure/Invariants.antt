@@ -1,6 +1,6 @@
 use Rattle.std.proofs.Common.{◌≡◌, ◌*◌, ◌≤◌, map, take, drop, length}
 use Rattle.std.specs.List.{AllByRecursion, flat_map}
-use Rattle.dk_types.specs.declared.value.ColType.TheVariants as types
+use Rattle.dk_values.specs.declared.value.ColType.TheVariants as types
 use Rattle.dk_bytes.specs.PlainValue.{IsPlain, present}
 use Rattle.dk_seg_text.specs.Dictionary.{text_of, entries_of, entry_bytes}
 use Rattle.dk_seg_text.proofs.dictionary.measure.Given as goal

@@ -1,10 +1,10 @@
 use Rattle.std.proofs.Common.{ap, ◌∙◌, take, length, map}
 use Rattle.std.proofs.lemmas.Result.{on_ok_weaker}
 use Rattle.dk_bytes.specs.PlainValue.{present}
-use Rattle.dk_seg_pack.proofs.Bodies.{kept_in_front, kept_then}
+use Rattle.dk_seg_pack.proofs.BodyLemmas.{kept_in_front, kept_then}
 use Rattle.dk_seg_text.specs.Dictionary.{text_of}
-use Rattle.dk_seg_text.proofs.Codes.{all_codes_below}
-use Rattle.dk_seg_text.proofs.Measures.{body_joined}
+use Rattle.dk_seg_text.proofs.CodeLemmas.{all_codes_below}
+use Rattle.dk_seg_text.proofs.MeasureLemmas.{body_joined}
 use Rattle.dk_seg_text.proofs.dictionary.put_body.Goals as goal
 
 pub put_codes-requires : goal.put_codes-requires

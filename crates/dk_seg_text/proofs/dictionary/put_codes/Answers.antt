@@ -1,6 +1,6 @@
 use Rattle.std.proofs.Common.{ap, ◌∙◌, ◌<◌, ◌^◌, take, length, rules}
-use Rattle.dk_seg_pack.proofs.Bodies.{kept_in_front, kept_then}
-use Rattle.dk_seg_text.proofs.Codes.{codes_fit}
+use Rattle.dk_seg_pack.proofs.BodyLemmas.{kept_in_front, kept_then}
+use Rattle.dk_seg_text.proofs.CodeLemmas.{codes_fit}
 use Rattle.dk_seg_text.proofs.dictionary.put_codes.Goals as goal
 
 pub pack-requires-clause-numbers : goal.pack-requires-clause-numbers

@@ -1,5 +1,5 @@
 use Rattle.std.proofs.Common.{arith, ◌+◌, ◌-◌}
-use Rattle.dk_seg_text.proofs.Seen.{one_entry}
+use Rattle.dk_seg_text.proofs.TextLemmas.{one_entry}
 use Rattle.dk_seg_text.proofs.dictionary.read_entries.Goals as goal
 
 pub entries-preserved : goal.entries-preserved

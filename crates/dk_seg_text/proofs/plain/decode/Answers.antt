@@ -1,8 +1,8 @@
 use Rattle.std.proofs.Common.{◌≡◌, List, length, arith, rules}
-use Rattle.dk_types.specs.declared.value.Value.{Value}
-use Rattle.dk_bytes.proofs.Outcome.{gives_found, gives_only}
+use Rattle.dk_values.specs.declared.value.Value.{Value}
+use Rattle.dk_bytes.proofs.OutcomeLemmas.{gives_found, gives_only}
 use Rattle.dk_seg_text.specs.Plain.{ArePlain, plain_body}
-use Rattle.dk_seg_text.proofs.Values.{body_found, body_only}
+use Rattle.dk_seg_text.proofs.ValueLemmas.{body_found, body_only}
 use Rattle.dk_seg_text.proofs.plain.decode.Goals as goal
 
 pub returns-clause-found : goal.returns-clause-found

@@ -1,7 +1,7 @@
 use Rattle.std.proofs.Common.{arith, ◌+◌, ◌-◌}
 use Rattle.std.proofs.lemmas.Result.{err_from_is_err_and}
-use Rattle.dk_bytes.proofs.Outcome.{fails_then}
-use Rattle.dk_seg_text.proofs.Values.{one_value, failed_value}
+use Rattle.dk_bytes.proofs.OutcomeLemmas.{fails_then}
+use Rattle.dk_seg_text.proofs.ValueLemmas.{one_value, failed_value}
 use Rattle.dk_seg_text.proofs.plain.read_values.Goals as goal
 
 pub values-preserved : goal.values-preserved

@@ -1,7 +1,7 @@
 use Rattle.std.proofs.Common.{◌≡◌, ◌-◌, ◌≤◌}
 use Rattle.dk_seg_text.specs.Plain.{values_at}
-use Rattle.dk_seg_text.proofs.Values.{with_front}
 use Rattle.dk_seg_text.proofs.plain.read_values.Given as goal
+use Rattle.dk_bytes.proofs.FrontLemmas.{with_front}
 
 abbrev pub invariant-values : goal.invariant-values
 invariant-values l = record {

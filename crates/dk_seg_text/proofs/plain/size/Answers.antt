@@ -1,6 +1,6 @@
 use Rattle.std.proofs.Common.{refl, rules}
 use Rattle.dk_bytes.specs.PlainValue.{present}
-use Rattle.dk_seg_text.proofs.Values.{all_plain}
+use Rattle.dk_seg_text.proofs.ValueLemmas.{all_plain}
 use Rattle.dk_seg_text.proofs.plain.size.Goals as goal
 
 pub returns-clause-held : goal.returns-clause-held

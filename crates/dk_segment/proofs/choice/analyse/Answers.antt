@@ -1,4 +1,4 @@
-use Rattle.dk_segment.proofs.ChoiceLaws.{column_plain}
+use Rattle.dk_segment.proofs.ChoiceLemmas.{column_plain}
 use Rattle.dk_segment.proofs.choice.analyse.Goals as goal
 
 pub best-requires-clause-plain : goal.best-requires-clause-plain

@@ -1,9 +1,9 @@
 use Rattle.std.proofs.Common.{List, arith, rules}
-use Rattle.dk_types.specs.declared.value.Value.{Value}
-use Rattle.dk_bytes.proofs.Outcome.{gives_found, gives_only}
+use Rattle.dk_values.specs.declared.value.Value.{Value}
+use Rattle.dk_bytes.proofs.OutcomeLemmas.{gives_found, gives_only}
 use Rattle.dk_segment.specs.declared.encoding.Encoding.{Encoding}
 use Rattle.dk_segment.specs.Segment.{IsSegment}
-use Rattle.dk_segment.proofs.SegmentLaws.{segment_found, segment_again}
+use Rattle.dk_segment.proofs.SegmentLemmas.{segment_found, segment_again}
 use Rattle.dk_segment.proofs.reading.decode.Goals as goal
 
 pub returns-clause-found : goal.returns-clause-found

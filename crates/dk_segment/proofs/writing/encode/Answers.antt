@@ -1,4 +1,4 @@
-use Rattle.dk_segment.proofs.ChoiceLaws.{column_plain}
+use Rattle.dk_segment.proofs.ChoiceLemmas.{column_plain}
 use Rattle.dk_segment.proofs.writing.encode.Goals as goal
 
 pub best-encoding-requires-clause-plain : goal.best-encoding-requires-clause-plain

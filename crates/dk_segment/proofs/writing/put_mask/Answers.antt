@@ -1,6 +1,6 @@
 use Rattle.std.proofs.Common.{◌<◌}
 use Rattle.std.proofs.lemmas.List.Elements.{All-from_recursion}
-use Rattle.dk_segment.proofs.NullLaws.{flags_fit}
+use Rattle.dk_segment.proofs.NullLemmas.{flags_fit}
 use Rattle.dk_segment.proofs.writing.put_mask.Goals as goal
 
 pub pack-requires-clause-numbers : goal.pack-requires-clause-numbers

@@ -45,7 +45,7 @@ use Rattle.std.specs.Prelude.{None}
 use Rattle.std.proofs.mem.Param.{El, R, elτ}
 use Rattle.std.proofs.RawLayout.{as_written}
 use Rattle.dk_undo.specs.Ownership.{slots}
-use Rattle.dk_undo.proofs.Memory.{Cr, Bs, Mark, sz, mark, mark_made, word_made}
+use Rattle.dk_undo.proofs.MemoryLemmas.{Cr, Bs, Mark, sz, mark, mark_made, word_made}
 use base.Fml.{Incl-trans}
 use lib.ListN.{replicate, length-replicate}
 use mir.Syntax.{ty_array}
@@ -71,11 +71,11 @@ use Rattle.std.specs.Vec.Ownership.{FitsInBlock}
 use Rattle.std.specs.contracts.result.Result as RS
 use Rattle.std.specs.contracts.alloc.AllocError as AE
 use Rattle.std.proofs.alloc.Calls.{Al, second, Answer-typed, takes_key, Takes, at_takes, Answered, Takes-goes, Takes-gives, answers}
-use Rattle.dk_undo.proofs.Blocks.{uncapped, block_ty, block_size, block_align, args, P}
+use Rattle.dk_undo.proofs.BlockLemmas.{uncapped, block_ty, block_size, block_align, args, P}
 use Rattle.std.proofs.VecSteps.Shapes.{head, arm_body}
 use Rattle.std.proofs.ResultValues.{ok_of, err_of}
 use Rattle.std.proofs.RcSteps.{first_Good}
-use Rattle.dk_undo.proofs.Memory.{three_val, three_of, of_room}
+use Rattle.dk_undo.proofs.MemoryLemmas.{three_val, three_of, of_room}
 use Rattle.dk_undo.specs.contracts.cells.Deed as D-type
 use Rattle.dk_undo.specs.contracts.block.allocate as F
 use Rattle.dk_undo.specs.contracts.block.allocate.Key.{name as #self}

@@ -41,7 +41,7 @@ use Rattle.std.specs.Prelude.{None}
 use Rattle.std.proofs.mem.Param.{El, R, elτ}
 use Rattle.std.proofs.RawLayout.{as_raw}
 use Rattle.dk_undo.specs.Ownership.{cells_own}
-use Rattle.dk_undo.proofs.Memory.{Cr, Bs, sz, Place, mark, mark_had, word_had}
+use Rattle.dk_undo.proofs.MemoryLemmas.{Cr, Bs, sz, Place, mark, mark_had, word_had}
 use base.Fml.{Incl-trans}
 use lib.Dec.{T}
 use lib.ListN.{replicate, length-replicate}
@@ -58,9 +58,9 @@ use types.ByLocal.{lands_last}
 use denote.Triple.Statement.{Triple}
 use denote.Triple.Call.{calls_at_last}
 use Rattle.std.proofs.alloc.Calls.{Al, second, token, gives_key, Gives, at_gives, Gives-goes, Gives-Gives}
-use Rattle.dk_undo.proofs.Blocks.{uncapped, block_ty, block_size, block_align, args, P}
+use Rattle.dk_undo.proofs.BlockLemmas.{uncapped, block_ty, block_size, block_align, args, P}
 use Rattle.dk_undo.specs.Ownership.{deed_owns}
-use Rattle.dk_undo.proofs.Memory.{to_room}
+use Rattle.dk_undo.proofs.MemoryLemmas.{to_room}
 use Rattle.dk_undo.specs.contracts.cells.Deed as D-type
 use Rattle.dk_undo.specs.contracts.block.deallocate as F
 use Rattle.dk_undo.specs.contracts.block.deallocate.Key.{name as #self}

@@ -1,6 +1,6 @@
 use Rattle.std.proofs.Common.{◌≡◌, drop, take, sym, ap, ◌∙◌, subst, arith}
 use Rattle.dk_undo.specs.Chain.{AreEmpty, Grows}
-use Rattle.dk_undo.proofs.Packed.{grows-nothing, grows-more, grows-drop, grows-take}
+use Rattle.dk_undo.proofs.PackedLemmas.{grows-nothing, grows-more, grows-drop, grows-take}
 use Rattle.dk_undo.proofs.chain.add_chunks.Goals as goal
 
 pub loop-added-init : goal.loop-added-init

@@ -1,7 +1,7 @@
 use Rattle.std.proofs.Common.{◌≤◌, drop, take, length, sym, ap, ◌∙◌, subst, arith}
 use Rattle.std.proofs.lemmas.List.{length_push}
 use Rattle.dk_undo.specs.Chain.{AreEmpty}
-use Rattle.dk_undo.proofs.Packed.{empty-push, take-push}
+use Rattle.dk_undo.proofs.PackedLemmas.{empty-push, take-push}
 use Rattle.dk_undo.proofs.chain.free_chunks.Goals as goal
 
 pub destroy_empty-requires : goal.destroy_empty-requires

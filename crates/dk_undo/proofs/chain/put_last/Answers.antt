@@ -1,5 +1,5 @@
 use Rattle.std.proofs.Common.{◌/◌, ◌%◌, [], ◌∷◌, ◌++◌, length, sym, ap, ◌∙◌, arith}
-use Rattle.dk_undo.proofs.Packed.{packed-at, put-packed, places-set}
+use Rattle.dk_undo.proofs.PackedLemmas.{packed-at, put-packed, places-set}
 use Rattle.dk_undo.proofs.chain.put_last.Goals as goal
 
 pub put-requires-clause-behind : goal.put-requires-clause-behind

@@ -1,5 +1,5 @@
 use Rattle.std.proofs.Common.{◌+◌, ◌/◌, ◌%◌, length, sym, ap, ◌∙◌, arith}
-use Rattle.dk_undo.proofs.Packed.{packed-within, packed-at, take-packed, places-set}
+use Rattle.dk_undo.proofs.PackedLemmas.{packed-within, packed-at, take-packed, places-set}
 use Rattle.dk_undo.proofs.chain.take_last.Goals as goal
 
 pub index_mut-requires : goal.index_mut-requires

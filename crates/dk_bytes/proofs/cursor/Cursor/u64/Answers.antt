@@ -1,4 +1,4 @@
-use Rattle.dk_bytes.proofs.Fields.{passes_same, reads_number}
+use Rattle.dk_bytes.proofs.FieldLemmas.{passes_same, reads_number}
 use Rattle.dk_bytes.proofs.cursor.Cursor.u64.Goals as goal
 
 pub returns-clause-found : goal.returns-clause-found

@@ -1,5 +1,5 @@
 use Rattle.std.proofs.Common.{sym, ◌∙◌}
-use Rattle.dk_seg_pack.proofs.Digits.{zero_from, zero_to}
+use Rattle.dk_seg_pack.proofs.DigitLemmas.{zero_from, zero_to}
 use Rattle.dk_seg_pack.proofs.bits.BitReader.is_zero.Goals as goal
 
 pub returns-then-self-eq0 : goal.returns-then-self-eq0

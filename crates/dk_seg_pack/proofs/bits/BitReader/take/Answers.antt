@@ -1,5 +1,5 @@
 use Rattle.std.proofs.Common.{ℕ, ◌/◌, ◌%◌, ◌^◌, ap, sym, ◌∙◌, arith}
-use Rattle.dk_seg_pack.proofs.Words.{masked, low_of, left_of, held_below}
+use Rattle.dk_seg_pack.proofs.WordLemmas.{masked, low_of, left_of, held_below}
 use Rattle.dk_seg_pack.proofs.bits.BitReader.take.Goals as goal
 
 pub invariant_of-self : goal.invariant_of-self

@@ -1,5 +1,5 @@
 use Rattle.std.proofs.Common.{arith}
-use Rattle.dk_seg_pack.proofs.Words.{joined_below, above_below}
+use Rattle.dk_seg_pack.proofs.WordLemmas.{joined_below, above_below}
 use Rattle.dk_seg_pack.proofs.bits.PendingBits.push.Goals as goal
 
 pub invariant_of-self : goal.invariant_of-self

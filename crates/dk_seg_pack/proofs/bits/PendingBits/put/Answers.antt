@@ -1,6 +1,6 @@
 use Rattle.std.proofs.Common.{ap, ◌++◌, ◌^◌, ◌<◌, List, ℕ, rules}
 use Rattle.std.proofs.lemmas.Result.{on_ok_weaker}
-use Rattle.dk_seg_pack.proofs.Packing.{behind_none, puts_word}
+use Rattle.dk_seg_pack.proofs.PackingLemmas.{behind_none, puts_word}
 use Rattle.dk_seg_pack.proofs.bits.PendingBits.put.Goals as goal
 
 pub returns-in-None-clause-ok : goal.returns-in-None-clause-ok

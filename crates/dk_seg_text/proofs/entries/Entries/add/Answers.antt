@@ -1,6 +1,6 @@
 use Rattle.std.proofs.Common.{ap, ◌∙◌, List, ℕ}
 use Rattle.dk_seg_text.specs.Dictionary.{code_of}
-use Rattle.dk_seg_text.proofs.Seen.{seen_keys, seen_code}
+use Rattle.dk_seg_text.proofs.TextLemmas.{seen_keys, seen_code}
 use Rattle.dk_seg_text.proofs.entries.Entries.add.Goals as goal
 
 pub returns-clause-entries : goal.returns-clause-entries

@@ -1,6 +1,6 @@
 use Rattle.std.proofs.Common.{ap, ◌∙◌, List, ℕ, not}
 use Rattle.dk_seg_text.specs.Dictionary.{is_entry}
-use Rattle.dk_seg_text.proofs.Seen.{seen_keys, seen_any}
+use Rattle.dk_seg_text.proofs.TextLemmas.{seen_keys, seen_any}
 use Rattle.dk_seg_text.proofs.entries.Entries.add_new.Goals as goal
 
 pub returns-clause-entries : goal.returns-clause-entries

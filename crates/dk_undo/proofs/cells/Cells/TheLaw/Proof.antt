@@ -11,7 +11,7 @@ use denote.Struct.Lending.{of_Lends}
 use Rattle.std.specs.contracts.marker.PhantomData as marker
 use Rattle.dk_undo.specs.contracts.cells.Cells as C
 use Rattle.dk_undo.proofs.cells.Cells.TheLaw.Statement.{statement}
-use Rattle.dk_undo.proofs.Sharing.{cells_lent_laws, Lends-cells}
+use Rattle.dk_undo.proofs.SharingLemmas.{cells_lent_laws, Lends-cells}
 
 pub shares : (R : RattleType) (L : Laws R) → statement R L
 shares R L = of_Lends (C.struct R) (C.the_codes R.Denot R.coded (marker.the_row RawPtr).coded) (C.the_heap R) (C.the_lent R)

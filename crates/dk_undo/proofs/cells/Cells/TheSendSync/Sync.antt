@@ -1,6 +1,6 @@
 use denote.RattleType.{RattleType}
 use denote.Param.Send.{IsSync}
-use Rattle.dk_undo.proofs.Crosses.{Cells-sync}
+use Rattle.dk_undo.proofs.SendSyncLemmas.{Cells-sync}
 use Rattle.dk_undo.specs.contracts.cells.Cells.{the_row}
 
 pub sync : (R : RattleType) → IsSync R → IsSync (the_row R)

@@ -47,7 +47,7 @@ use Rattle.std.proofs.mem.Param.{El, R, args, el_x}
 use Rattle.std.proofs.ptr.Rows.{times_below, one_below}
 use Rattle.dk_undo.specs.Places.{IsFilled}
 use Rattle.dk_undo.specs.Ownership.{slot_lent, cells_lent}
-use Rattle.dk_undo.proofs.Memory.{Cr, Bs, sz, Place, word_had, filled_within, slot_seen}
+use Rattle.dk_undo.proofs.MemoryLemmas.{Cr, Bs, sz, Place, word_had, filled_within, slot_seen}
 use Rattle.dk_undo.specs.contracts.cells.Cells.get.Key.{name as #self}
 use Rattle.dk_undo.proofs.cells.Cells.get.Statement as stated
 use Rattle.dk_undo.proofs.cells.Cells.get.Code as code

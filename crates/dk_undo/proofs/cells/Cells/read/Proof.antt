@@ -48,7 +48,7 @@ use Rattle.std.proofs.ptr.Rows.{times_below, one_below}
 use Rattle.std.proofs.RawLayout.{as_raw}
 use Rattle.dk_undo.specs.Places.{IsFilled}
 use Rattle.dk_undo.specs.Ownership.{slot, slots, cells_own}
-use Rattle.dk_undo.proofs.Memory.{Cr, Bs, sz, Place, word_had, says_both, value_out, filled_within, Besides, slot_out, slot_in}
+use Rattle.dk_undo.proofs.MemoryLemmas.{Cr, Bs, sz, Place, word_had, says_both, value_out, filled_within, Besides, slot_out, slot_in}
 use Rattle.dk_undo.specs.contracts.cells.Cells.read.Key.{name as #self}
 use Rattle.dk_undo.proofs.cells.Cells.read.Statement as stated
 use Rattle.dk_undo.proofs.cells.Cells.read.Code as code

@@ -47,7 +47,7 @@ use Rattle.std.proofs.mem.Param.{El, R, args, elτ}
 use Rattle.std.proofs.ptr.Rows.{times_below, one_below}
 use Rattle.std.proofs.RawLayout.{as_written}
 use Rattle.dk_undo.specs.Ownership.{slot, slots, cells_own}
-use Rattle.dk_undo.proofs.Memory.{Cr, Bs, sz, Place, word_had, value_in, tells, Besides, slot_out, slot_in}
+use Rattle.dk_undo.proofs.MemoryLemmas.{Cr, Bs, sz, Place, word_had, value_in, tells, Besides, slot_out, slot_in}
 use Rattle.dk_undo.specs.contracts.cells.Cells.write.Key.{name as #self}
 use Rattle.dk_undo.proofs.cells.Cells.write.Statement as stated
 use Rattle.dk_undo.proofs.cells.Cells.write.Code as code

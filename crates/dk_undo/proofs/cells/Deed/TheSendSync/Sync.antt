@@ -1,7 +1,7 @@
 use denote.RattleType.{RattleType}
 use denote.Param.Send.{IsSync}
 use Rattle.std.specs.declared.alloc.Allocator.{Ghosts}
-use Rattle.dk_undo.proofs.Crosses.{Deed-sync}
+use Rattle.dk_undo.proofs.SendSyncLemmas.{Deed-sync}
 use Rattle.dk_undo.specs.contracts.cells.Deed.{the_row}
 
 pub sync : (R A : RattleType) (g : Ghosts A.Denot) → IsSync (the_row R A g)

@@ -1,5 +1,5 @@
 use Rattle.std.proofs.Common.{length, slice_get, sym, ap, ◌∙◌, arith}
-use Rattle.dk_undo.proofs.Chunks.{item_at, place_holds}
+use Rattle.dk_undo.proofs.ChunkLemmas.{item_at, place_holds}
 use Rattle.dk_undo.proofs.chunk.Chunk.get.Goals as goal
 
 pub get-requires : goal.get-requires

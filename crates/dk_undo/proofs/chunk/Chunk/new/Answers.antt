@@ -1,5 +1,5 @@
 use Rattle.std.proofs.Common.{[], refl}
-use Rattle.dk_undo.proofs.Chunks.{laid_as}
+use Rattle.dk_undo.proofs.ChunkLemmas.{laid_as}
 use Rattle.dk_undo.proofs.chunk.Chunk.new.Goals as goal
 
 pub invariant_of-result : goal.invariant_of-result

@@ -1,6 +1,6 @@
 use Rattle.std.proofs.Common.{length, sym, ap, ◌∙◌, ◌++◌, ◌∷◌, [], arith}
 use Rattle.std.proofs.lemmas.Option.{slice_get_past}
-use Rattle.dk_undo.proofs.Chunks.{place_holds, length-slots, put_into}
+use Rattle.dk_undo.proofs.ChunkLemmas.{place_holds, length-slots, put_into}
 use Rattle.dk_undo.proofs.chunk.Chunk.put.Goals as goal
 
 pub write-requires : goal.write-requires

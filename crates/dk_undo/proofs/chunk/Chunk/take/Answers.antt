@@ -1,5 +1,5 @@
 use Rattle.std.proofs.Common.{length, sym, ap, ◌∙◌, arith}
-use Rattle.dk_undo.proofs.Chunks.{item_at, place_holds, taken_from}
+use Rattle.dk_undo.proofs.ChunkLemmas.{item_at, place_holds, taken_from}
 use Rattle.dk_undo.proofs.chunk.Chunk.take.Goals as goal
 
 pub read-requires : goal.read-requires

@@ -1,5 +1,5 @@
 use Rattle.std.proofs.Common.{length, sym, ap, ◌∙◌}
-use Rattle.dk_undo.proofs.Packed.{length-entries, packed-empty}
+use Rattle.dk_undo.proofs.PackedLemmas.{length-entries, packed-empty}
 use Rattle.dk_undo.proofs.stack.UndoStack.destroy_empty.Goals as goal
 
 pub free_chunks-requires : goal.free_chunks-requires

@@ -1,5 +1,5 @@
 use Rattle.std.proofs.Common.{length, sym, ap, ◌∙◌}
-use Rattle.dk_undo.proofs.Packed.{length-entries}
+use Rattle.dk_undo.proofs.PackedLemmas.{length-entries}
 use Rattle.dk_undo.proofs.stack.UndoStack.len.Goals as goal
 
 pub returns : goal.returns

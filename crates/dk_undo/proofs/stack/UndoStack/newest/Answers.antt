@@ -1,5 +1,5 @@
 use Rattle.std.proofs.Common.{◌≡◌, ℕ, ◌-◌, ◌/◌, ◌%◌, ◌<◌, length, slice_get, sym, ap, ◌∙◌, subst, arith}
-use Rattle.dk_undo.proofs.Packed.{length-entries, packed-within, entry-at}
+use Rattle.dk_undo.proofs.PackedLemmas.{length-entries, packed-within, entry-at}
 use Rattle.dk_undo.proofs.stack.UndoStack.newest.Goals as goal
 
 pub overflow_sub-at : goal.overflow_sub-at

@@ -1,5 +1,5 @@
 use Rattle.std.proofs.Common.{refl, sym, ap, ◌∙◌, arith}
-use Rattle.dk_undo.proofs.Packed.{packed-within, packed-empty, entries-empty, length-placed}
+use Rattle.dk_undo.proofs.PackedLemmas.{packed-within, packed-empty, entries-empty, length-placed}
 use Rattle.dk_undo.proofs.stack.UndoStack.pop.Goals as goal
 
 pub returns-then-self-eq0-clause-none : goal.returns-then-self-eq0-clause-none

@@ -1,6 +1,6 @@
 use Rattle.std.proofs.Common.{◌≡◌, ◌-◌, ◌*◌, length, ap, ◌∙◌, arith}
 use Rattle.dk_undo.specs.Stack.{stack, reserved}
-use Rattle.dk_undo.proofs.Packed.{packed-within, grows-length, grows-packed, grows-entries}
+use Rattle.dk_undo.proofs.PackedLemmas.{packed-within, grows-length, grows-packed, grows-entries}
 use Rattle.dk_undo.proofs.stack.UndoStack.reserve.Goals as goal
 
 pub invariant_of-self-2 : goal.invariant_of-self-2

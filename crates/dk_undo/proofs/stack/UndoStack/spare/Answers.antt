@@ -1,5 +1,5 @@
 use Rattle.std.proofs.Common.{arith}
-use Rattle.dk_undo.proofs.Packed.{packed-within}
+use Rattle.dk_undo.proofs.PackedLemmas.{packed-within}
 use Rattle.dk_undo.proofs.stack.UndoStack.spare.Goals as goal
 
 pub overflow_sub-result : goal.overflow_sub-result
