@@ -1,14 +1,14 @@
 -- The database, and what commits do to it.
-use Rattle.std.specs.Prelude.{ℕ, List, [], ◌∷◌, ◌++◌, map, take, Option, Some, None, position, bytes_eq, slice_get, slice_set, filter_map}
-use Rattle.dk_types.specs.declared.value.Value.{Value}
-use Rattle.dk_types.specs.declared.net.TableNet.{TableNet}
+use Rattle.std.specs.Prelude.{ℕ, List, Option, position, bytes_eq, filter_map, [], ◌∷◌, Some, slice_set, None, ◌++◌, map, slice_get, take}
+use Rattle.dk_values.specs.declared.value.Value.{Value}
 use Rattle.dk_types.specs.declared.net.Commit.{Commit}
 use Rattle.dk_types.specs.declared.net.Commit.TheVariants.{Create, Change}
+use Rattle.dk_types.specs.declared.net.TableNet.{TableNet}
 use Rattle.dk_si.specs.declared.database.Table.{Table}
 
--- the place of the table of that name
-abbrev pub place_of : List ℕ → List Table → Option ℕ
-place_of name tables = position (λ table. bytes_eq table.name name) tables
+-- the place of that name among items that have names
+abbrev pub place_of : {T : Type 0} → (T → List ℕ) → List ℕ → List T → Option ℕ
+place_of name_of name items = position (λ item. bytes_eq (name_of item) name) items
 
 -- the rows that are there, in the order of their ids
 abbrev pub present : List (Option (List Value)) → List (List Value)

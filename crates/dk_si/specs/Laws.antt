@@ -1,24 +1,29 @@
 -- Laws of the machine, each the contract of a function of its own.
-use Rattle.std.specs.Prelude.{◌≡◌, ℕ, ◌+◌, ◌-◌, ◌<◌, ◌≤◌, true, List, [], ◌∷◌, ◌++◌, map, take, length, slice_get, Some, None, option_to_list}
-use Rattle.dk_types.specs.declared.value.Value.{Value}
+use Rattle.std.specs.Prelude.{List, [], ◌∷◌, ◌≡◌, ℕ, ◌≤◌, ◌++◌, length, true, ◌&&◌, if◌then◌else◌, take, ◌+◌, map, option_to_list, Some, None, ◌-◌, slice_get, ◌<◌}
+use Rattle.dk_values.specs.declared.value.Value.{Value}
 use Rattle.dk_types.specs.declared.net.Commit.{Commit}
 use Rattle.dk_types.specs.declared.net.TableNet.{TableNet}
-use Rattle.dk_types.specs.declared.statement.Statement.{Statement}
 use Rattle.dk_types.specs.declared.reply.Reply.{Reply}
+use Rattle.dk_syntax.specs.declared.statement.Statement.{Statement}
 use Rattle.dk_si.specs.declared.database.Table.{Table}
 use Rattle.dk_si.specs.declared.history.Asked.{Asked}
 use Rattle.dk_si.specs.declared.history.Entry.{Entry}
-use Rattle.dk_si.specs.declared.history.Entry.TheVariants as history
-use Rattle.dk_si.specs.declared.machine.Active.{Active}
-use Rattle.dk_si.specs.declared.machine.Transaction.TheVariants as state
-use Rattle.dk_si.specs.declared.machine.Session.{Session}
+use Rattle.dk_si.specs.declared.history.Entry.TheVariants as entry
+use Rattle.dk_si.specs.declared.machine.OpenTransaction.{OpenTransaction}
 use Rattle.dk_si.specs.declared.machine.Machine.{Machine}
+use Rattle.dk_si.specs.declared.machine.Session.{Session}
+use Rattle.dk_si.specs.declared.machine.Transaction.TheVariants as transaction
 use Rattle.dk_si.specs.declared.meaning.Meaning.TheVariants.{Change}
 use Rattle.dk_si.specs.Database.{after}
-use Rattle.dk_si.specs.Held.{commit_has}
-use Rattle.dk_si.specs.Machine.{first_state, session_at, moves, next, meaning_in}
-use Rattle.dk_si.specs.Meaning.{meaning, same_rows}
-use Rattle.dk_si.specs.Steps.{are_steps}
+use Rattle.dk_si.specs.Exchanges.{exchanges, exchanges_and}
+use Rattle.dk_si.specs.HeldRows.{commit_has}
+use Rattle.dk_si.specs.IsLegal.{is_legal}
+use Rattle.dk_si.specs.IsStep.{are_steps, is_step}
+use Rattle.dk_si.specs.Machine.{changed_ids, next, first_state, meaning_in, transition, session_at}
+use Rattle.dk_si.specs.Meaning.{same_rows, meaning}
+use Rattle.dk_si.specs.StatesSince.{is_call_of, states_since}
+use Rattle.dk_types.specs.Nets.{ascends}
+use Rattle.dk_si.specs.Nets.{has_id, committed_ids, net_has, merged_net}
 
 -- the machine after these entries
 abbrev pub state_after : List Table → Machine → List Entry → Machine
@@ -36,9 +41,47 @@ abbrev pub FrontsAreSteps : Type 0
 FrontsAreSteps = (opened : List Table) (entries more : List Entry)
     → are_steps opened [] first_state (entries ++ more) ≡ true → are_steps opened [] first_state entries ≡ true
 
+-- the state after one more entry
+abbrev pub StateAndOne : Type 0
+StateAndOne = (opened : List Table) (entries : List Entry) (entry : Entry)
+    → state_after opened first_state (entries ++ entry ∷ []) ≡ next opened (state_after opened first_state entries) entry
+
+-- a list of steps with one more entry, which is a step from the state after them
+abbrev pub StepsAndOne : Type 0
+StepsAndOne = (opened : List Table) (entries : List Entry) (entry : Entry)
+    → are_steps opened [] first_state (entries ++ entry ∷ [])
+    ≡ (are_steps opened [] first_state entries && is_step opened entries (state_after opened first_state entries) entry)
+
+-- the states since a call after one more entry
+abbrev pub StatesSinceAndOne : Type 0
+StatesSinceAndOne = (opened : List Table) (session : ℕ) (entries : List Entry) (entry : Entry)
+    → states_since opened session (entries ++ entry ∷ [])
+    ≡ (if is_call_of session entry then [] else states_since opened session entries) ++ next opened (state_after opened first_state entries) entry ∷ []
+
+-- the calls with their replies after one more entry
+abbrev pub ExchangesAndOne : Type 0
+ExchangesAndOne = (entries : List Entry) (entry : Entry)
+    → exchanges (entries ++ entry ∷ []) ≡ exchanges_and (exchanges entries) (length entries) entry
+
+-- the front of a legal history is a legal history
+abbrev pub FrontsAreLegal : Type 0
+FrontsAreLegal = (opened : List Table) (iteration : ℕ) (entries more : List Entry)
+    → is_legal opened iteration (entries ++ more) ≡ true → is_legal opened iteration entries ≡ true
+
+-- behind a statement a transaction still has the rows that it had, where the statement's table has that many committed rows
+abbrev pub NetStays : Type 0
+NetStays = (count : ℕ) (net : List TableNet) (change : TableNet) (table row : ℕ)
+    → ascends net ≡ true → (change.table ≡ table → row < count) → net_has net table row ≡ true
+    → net_has (merged_net count net change) table row ≡ true
+
+-- and has the committed rows that the statement updates or deletes
+abbrev pub NetGains : Type 0
+NetGains = (count : ℕ) (net : List TableNet) (change : TableNet) (row : ℕ)
+    → has_id (committed_ids count (changed_ids change)) row ≡ true → net_has (merged_net count net change) change.table row ≡ true
+
 -- what a statement means in a transaction depends on the commits up to its start, and its own changes
 abbrev pub SeesItsSnapshot : Type 0
-SeesItsSnapshot = (opened : List Table) (commits others : List Commit) (active other : Active) (asked : Asked)
+SeesItsSnapshot = (opened : List Table) (commits others : List Commit) (active other : OpenTransaction) (asked : Asked)
     → active.start ≡ other.start → active.net ≡ other.net → take active.start commits ≡ take active.start others
     → meaning_in opened commits active asked ≡ meaning_in opened others other asked
 
@@ -54,16 +97,16 @@ CountsItsRows = (tables : List Table) (statement : Statement) (count : ℕ) (par
 -- the start of the transaction that a reply commits, if it commits one
 abbrev pub reply_starts : List Table → Machine → Reply → Session → List ℕ
 reply_starts opened machine reply session = elim session.transaction [
-  | state.Outside ↦ []
-  | state.Aborted ↦ []
-  | state.Open active ↦ map (λ commit. active.start) (option_to_list (moves opened machine.commits active session.asked reply).commit)
+  | transaction.Outside ↦ []
+  | transaction.Aborted ↦ []
+  | transaction.Open active ↦ map (λ commit. active.start) (option_to_list (transition opened machine.commits active session.asked reply).commit)
 ]
 
 -- the start of the transaction that an entry commits, if it commits one
 abbrev pub entry_starts : List Table → Machine → Entry → List ℕ
-entry_starts opened machine (history.Call session asked) = []
-entry_starts opened machine (history.Begun session number start) = []
-entry_starts opened machine (history.Reply session reply) = elim (session_at machine.sessions session) [
+entry_starts opened machine (entry.Call session asked) = []
+entry_starts opened machine (entry.Begun session number start) = []
+entry_starts opened machine (entry.Reply session reply) = elim (session_at machine.sessions session) [
   | None ↦ []
   | Some before ↦ reply_starts opened machine reply before
 ]

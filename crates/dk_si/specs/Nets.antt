@@ -1,11 +1,15 @@
 -- How a statement's changes of the view join those that its transaction made before.
-use Rattle.std.specs.Prelude.{ℕ, ◌-◌, Bool, ◌&&◌, ◌||◌, not, List, [], ◌∷◌, ◌++◌, map, sum, length, Option, Some, None, ◌==◌, nat_lt, if◌then◌else◌, slice_get}
-use Rattle.std.specs.List.{filter, list_any}
-use Rattle.dk_types.specs.declared.value.Value.{Value}
-use Rattle.dk_types.specs.declared.net.TableNet.{TableNet}
+use Rattle.std.specs.List.{list_any, filter}
+use Rattle.std.specs.Prelude.{true, false, ℕ, List, [], ◌∷◌, ◌==◌, nat_lt, if◌then◌else◌, Option, Some, None, Bool, ◌-◌, not, map, ◌++◌, length, slice_get, ◌||◌, ◌&&◌, sum}
+use Rattle.dk_values.specs.declared.value.Value.{Value}
 use Rattle.dk_types.specs.Nets.{changes}
+use Rattle.dk_types.specs.declared.net.TableNet.{TableNet}
 use Rattle.dk_si.specs.declared.database.Table.{Table}
 use Rattle.dk_si.specs.Database.{present, put_rows, clear_rows}
+
+abbrev pub is_empty : {T : Type 0} → List T → Bool
+is_empty [] = true
+is_empty (x ∷ xs) = false
 
 -- an item in an ascending list: it takes the place of one with its key
 abbrev pub put_by : {T : Type 0} → (T → ℕ) → T → List T → List T
@@ -15,9 +19,9 @@ put_by key item (first ∷ items) =
     else (if key item == key first then item ∷ items else first ∷ put_by key item items)
 
 -- a list behind an item that may wait for its place in it
-abbrev pub placed : {T : Type 0} → (T → ℕ) → Option T → List T → List T
-placed key None items = items
-placed key (Some item) items = put_by key item items
+abbrev pub with_waiting : {T : Type 0} → (T → ℕ) → Option T → List T → List T
+with_waiting key None items = items
+with_waiting key (Some item) items = put_by key item items
 
 abbrev pub put_all : {T : Type 0} → (T → ℕ) → List T → List T → List T
 put_all key [] items = items
@@ -43,25 +47,25 @@ own_updates count updates = map (λ update. (update.0 - count, update.1)) (filte
 
 -- the transaction's own rows: those that are updated have their new values, those that are deleted close up, and new
 -- ones come at the end
-abbrev pub further_rows : ℕ → TableNet → TableNet → List (List Value)
-further_rows count part change =
+abbrev pub merged_rows : ℕ → TableNet → TableNet → List (List Value)
+merged_rows count part change =
     present (clear_rows (own_places count change.deletes) (put_rows (own_updates count change.updates) (map Some part.rows))) ++ change.rows
 
 -- the updates of committed rows: the newer values of a row stay, and a row that is deleted has none
-abbrev pub further_updates : ℕ → TableNet → TableNet → List (ℕ × List Value)
-further_updates count part change =
+abbrev pub merged_updates : ℕ → TableNet → TableNet → List (ℕ × List Value)
+merged_updates count part change =
     filter (λ update. not (has_id change.deletes update.0)) (put_all (λ update. update.0) (committed_updates count change.updates) part.updates)
 
-abbrev pub further_deletes : ℕ → TableNet → TableNet → List ℕ
-further_deletes count part change = put_all (λ id. id) (committed_ids count change.deletes) part.deletes
+abbrev pub merged_deletes : ℕ → TableNet → TableNet → List ℕ
+merged_deletes count part change = put_all (λ id. id) (committed_ids count change.deletes) part.deletes
 
 -- a part with a statement's change, in a table of so many committed rows
-abbrev pub further_part : ℕ → TableNet → TableNet → TableNet
-further_part count part change = record {
+abbrev pub merged_part : ℕ → TableNet → TableNet → TableNet
+merged_part count part change = record {
   table = change.table;
-  updates = further_updates count part change;
-  deletes = further_deletes count part change;
-  rows = further_rows count part change;
+  updates = merged_updates count part change;
+  deletes = merged_deletes count part change;
+  rows = merged_rows count part change;
 }
 
 -- what a net has of a table
@@ -77,8 +81,8 @@ abbrev pub with_part : TableNet → List TableNet → List TableNet
 with_part part net = if changes part then put_by (λ part. part.table) part net else net
 
 -- the transaction's changes after a statement that changes the view so
-abbrev pub further : ℕ → List TableNet → TableNet → List TableNet
-further count net change = with_part (further_part count (part_of net change.table) change) (without net change.table)
+abbrev pub merged_net : ℕ → List TableNet → TableNet → List TableNet
+merged_net count net change = with_part (merged_part count (part_of net change.table) change) (without net change.table)
 
 -- how many rows a table has by now
 abbrev pub row_count : List Table → ℕ → ℕ

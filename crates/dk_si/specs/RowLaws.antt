@@ -1,13 +1,13 @@
 -- Which rows a statement updates and deletes.
-use Rattle.std.specs.Prelude.{◌≡◌, ℕ, Bool, true, false, is_some, List, Option, Some, None, slice_get}
-use Rattle.dk_types.specs.declared.value.Value.{Value}
+use Rattle.std.specs.Prelude.{ℕ, Bool, false, is_some, List, Option, Some, None, slice_get, ◌≡◌, true}
+use Rattle.dk_values.specs.declared.value.Value.{Value}
 use Rattle.dk_types.specs.declared.net.TableNet.{TableNet}
-use Rattle.dk_types.specs.declared.statement.Statement.{Statement}
+use Rattle.dk_syntax.specs.declared.statement.Statement.{Statement}
 use Rattle.dk_si.specs.declared.database.Table.{Table}
 use Rattle.dk_si.specs.declared.meaning.Meaning.TheVariants.{Change}
-use Rattle.dk_si.specs.Nets.{has_id}
 use Rattle.dk_si.specs.Machine.{changed_ids}
 use Rattle.dk_si.specs.Meaning.{meaning}
+use Rattle.dk_si.specs.Nets.{has_id}
 
 -- whether a row of that id is there
 abbrev pub has_row : List (Option (List Value)) → ℕ → Bool

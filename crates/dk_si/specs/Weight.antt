@@ -1,9 +1,9 @@
 -- How long the log's record of a net is.
-use Rattle.std.specs.Prelude.{ℕ, ◌+◌, ◌*◌, ◌/◌, ◌-◌, ◌^◌, List, length, map, sum, drop, min}
-use Rattle.dk_types.specs.declared.value.Value.{Value}
-use Rattle.dk_types.specs.declared.value.Value.TheVariants.{Null, Bool, Int, Big, Text, Huge}
+use Rattle.std.specs.Prelude.{ℕ, ◌-◌, ◌^◌, min, ◌+◌, length, List, map, sum, ◌/◌, ◌*◌, drop}
+use Rattle.dk_values.specs.declared.value.Value.{Value}
+use Rattle.dk_values.specs.declared.value.Value.TheVariants.{Null, Bool, Int, Big, Text, Huge}
 use Rattle.dk_types.specs.declared.net.TableNet.{TableNet}
-use Rattle.dk_si.specs.declared.weights.TheConstants.{GROUP_ROWS}
+use Rattle.dk_si.specs.declared.limits.TheConstants.{GROUP_ROWS}
 
 -- the greatest number of 64 bits stands for all above
 abbrev pub cap : ℕ → ℕ

@@ -2,7 +2,7 @@
 use dk_types::{List, OutOfMemory, Reply, Statement, TryCopy};
 
 /// What was read of a statement's text.
-#[derive(Debug, Drop, PartialEq)]
+#[derive(Debug, Drop)]
 pub enum Asked {
     /// There was no memory to read it.
     Unread,
@@ -12,7 +12,7 @@ pub enum Asked {
 }
 
 /// An entry of a history. Sessions have the numbers 1 to 32.
-#[derive(Debug, Drop, PartialEq)]
+#[derive(Debug, Drop)]
 pub enum Entry {
     Call {
         session: u32,

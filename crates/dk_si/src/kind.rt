@@ -1,12 +1,11 @@
 //! What a statement does with its session's transaction.
 ghost use Rattle.std.specs.Prelude.{◌≡◌};
-ghost use Rattle.dk_si.specs.Machine.{kind_of, has_own};
-ghost use Rattle.dk_si.specs.Steps.{begins_one};
+ghost use Rattle.dk_si.specs.Machine.{kind_of, has_own, begins_one};
 
 use dk_types::Statement;
 
 /// The statements as the machine tells them apart.
-#[derive(Clone, Copy, Debug, PartialEq, Eq)]
+#[derive(Clone, Copy, Debug)]
 pub enum Kind {
     Begin,
     Commit,
@@ -14,7 +13,7 @@ pub enum Kind {
     Checkpoint,
     Create,
     Select,
-    /// INSERT, UPDATE and DELETE.
+    /// INSERT, COPY, UPDATE and DELETE.
     Change,
 }
 
@@ -24,9 +23,11 @@ impl Kind {
     {
         match statement {
             Statement::Create { .. } => Kind::Create,
-            Statement::Insert { .. } | Statement::Update { .. } | Statement::Delete { .. } => {
-                Kind::Change
-            }
+            Statement::Insert { .. }
+            | Statement::InsertSelect { .. }
+            | Statement::Copy { .. }
+            | Statement::Update { .. }
+            | Statement::Delete { .. } => Kind::Change,
             Statement::Select { .. } => Kind::Select,
             Statement::Begin => Kind::Begin,
             Statement::Commit => Kind::Commit,
@@ -46,6 +47,6 @@ impl Kind {
     pub fn begins_one(self) -> bool
         ensures { result ≡ begins_one self }
     {
-        self == Kind::Begin || self.has_own()
+        matches!(self, Kind::Begin) || self.has_own()
     }
 }

@@ -1,38 +1,93 @@
 //! Laws of the machine. None of these functions does anything: what is proved is its contract.
-ghost use Rattle.dk_si.specs.Laws.{CommitsStay, FrontsAreSteps, SeesItsSnapshot, SameRowsAreEqual, CountsItsRows, CommitsHaveStarts, SeesEarlierCommits, FirstCommitterWins};
+ghost use Rattle.dk_si.specs.Standing.{StandingAndOne, StandsWell};
+ghost use Rattle.dk_si.specs.Laws.{CommitsStay, FrontsAreSteps, StateAndOne, StepsAndOne, StatesSinceAndOne, ExchangesAndOne, FrontsAreLegal, NetStays, NetGains, SeesItsSnapshot, SameRowsAreEqual, CountsItsRows, CommitsHaveStarts, SeesEarlierCommits, FirstCommitterWins};
 
 /// The state after the first n commits does not depend on what comes after the n-th.
-#[tactic(auto, using(crate::proofs::Growth::commits_stay))]
+#[tactic(auto, using(crate::proofs::GrowthLemmas::commits_stay))]
 pub fn commits_stay()
     ensures { CommitsStay }
 {}
 
 /// The front of a list of steps is a list of steps.
-#[tactic(auto, using(crate::proofs::Growth::fronts_are_steps))]
+#[tactic(auto, using(crate::proofs::GrowthLemmas::fronts_are_steps))]
 pub fn fronts_are_steps()
     ensures { FrontsAreSteps }
 {}
 
+/// The state after one more entry.
+#[tactic(auto, using(crate::proofs::ForwardLemmas::state_and_one))]
+pub fn state_and_one()
+    ensures { StateAndOne }
+{}
+
+/// A list of steps with one more entry.
+#[tactic(auto, using(crate::proofs::ForwardLemmas::steps_and_one))]
+pub fn steps_and_one()
+    ensures { StepsAndOne }
+{}
+
+/// The states since a call after one more entry.
+#[tactic(auto, using(crate::proofs::ForwardLemmas::states_since_and_one))]
+pub fn states_since_and_one()
+    ensures { StatesSinceAndOne }
+{}
+
+/// The calls with their replies after one more entry.
+#[tactic(auto, using(crate::proofs::ExchangeLemmas::exchanges_and_one))]
+pub fn exchanges_and_one()
+    ensures { ExchangesAndOne }
+{}
+
+/// The front of a legal history is a legal history.
+#[tactic(auto, using(crate::proofs::FrontLemmas::fronts_are_legal))]
+pub fn fronts_are_legal()
+    ensures { FrontsAreLegal }
+{}
+
+/// What is carried of stops and iterations goes on from one entry to the next.
+#[tactic(auto, using(crate::proofs::StandingLemmas::standing_and_one))]
+pub fn standing_and_one()
+    ensures { StandingAndOne }
+{}
+
+/// Whether stops and iterations stand well over a list with one more entry is told by what was carried to it.
+#[tactic(auto, using(crate::proofs::StandingLemmas::stands_well))]
+pub fn stands_well()
+    ensures { StandsWell }
+{}
+
+/// Behind a statement a transaction still has the rows that it had.
+#[tactic(auto, using(crate::proofs::NetLemmas::net_stays))]
+pub fn net_stays()
+    ensures { NetStays }
+{}
+
+/// Behind a statement a transaction has the committed rows that the statement updates or deletes.
+#[tactic(auto, using(crate::proofs::NetLemmas::net_gains))]
+pub fn net_gains()
+    ensures { NetGains }
+{}
+
 /// What a statement means in a transaction depends on the commits up to its start, and on its own changes, alone.
-#[tactic(auto, using(crate::proofs::Growth::sees_its_snapshot))]
+#[tactic(auto, using(crate::proofs::GrowthLemmas::sees_its_snapshot))]
 pub fn sees_its_snapshot()
     ensures { SeesItsSnapshot }
 {}
 
 /// A query is answered by exactly the rows that it means.
-#[tactic(auto, using(crate::proofs::Meant::same_rows_are_equal))]
+#[tactic(auto, using(crate::proofs::MeaningLemmas::same_rows_are_equal))]
 pub fn same_rows_are_equal()
     ensures { SameRowsAreEqual }
 {}
 
 /// The count of a change is the number of rows that it updates, deletes and adds.
-#[tactic(auto, using(crate::proofs::Meant::counts_its_rows))]
+#[tactic(auto, using(crate::proofs::MeaningLemmas::counts_its_rows))]
 pub fn counts_its_rows()
     ensures { CountsItsRows }
 {}
 
 /// Each commit is that of a transaction with a start.
-#[tactic(auto, using(crate::proofs::Wins::commits_have_starts))]
+#[tactic(auto, using(crate::proofs::FirstCommitterLemmas::commits_have_starts))]
 pub fn commits_have_starts()
     ensures { CommitsHaveStarts }
 {}

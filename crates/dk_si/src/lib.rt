@@ -1,42 +1,36 @@
 //! The machine of snapshot isolation: what sessions may be answered, on plain lists of rows.
 //!
-//! A history lists calls, begun transactions and replies. `run_slow` answers whether it is legal: whether each entry is a
-//! step of the machine from the state after the entries before it, and whether stops and checkpoints stand as they must over
-//! the whole list. The definitions in `specs` are what the product is measured by: the database and its commits
-//! (`Database`), a transaction's changes (`Nets`) and the length of their log record (`Weight`), what a statement means
-//! (`Meaning`), the machine's state (`Machine`), rows held against a transaction (`Held`), the step (`Steps`) and legal
-//! histories (`Legal`). Only `Meaning` looks into a statement. What holds of each list of steps stands in `laws`: the commits
-//! that a transaction sees stay as they are, and of two overlapping transactions that change one row never both commit. It
-//! stands on `dk_types`.
+//! The definitions in `specs` are what the product is measured by: the database and its commits (`Database`), a
+//! transaction's changes (`Nets`), the length of their log record (`Weight`) and how large they may be (`Size`), what a
+//! statement means (`Meaning`), the machine's state and what each entry makes of it (`Machine`), rows held against a
+//! transaction (`HeldRows`), what a call may be answered by what its session knows (`MayAnswer`), the step (`IsStep`),
+//! legal histories (`IsLegal`), stops and iterations carried from entry to entry (`Standing`), and histories of one thread
+//! (`OneThread`, `Answer`). Three look into a statement: `Meaning`, `LawfulCalls`, and `kind_of` of `Machine`; all others ask
+//! these.
+//!
+//! What holds of each list of steps stands in `laws`: the commits that a transaction sees stay as they are, each front of a
+//! legal history is legal, and of two overlapping transactions that change one row never both commit. The program that
+//! decides whether a history is legal is `dk_legal`, above this crate. It stands on `dk_types`.
 #![tactic(auto)]
 
-mod answers;
 pub mod database;
-mod exchange;
-mod held;
+pub mod exchange;
 pub mod history;
-mod kind;
-mod lawful;
+pub mod kind;
 pub mod laws;
-mod legal;
-mod machine;
+pub mod limits;
+pub mod machine;
 pub mod meaning;
-mod nets;
+pub mod names;
+mod needs;
 pub mod one_thread;
-mod refusals;
+pub mod replies;
 pub mod row_laws;
-mod same;
-#[cfg(test)]
-mod scripts;
-mod since;
-mod slices;
-mod step;
+pub mod standing;
 #[cfg(test)]
 mod tests;
-pub mod weights;
 
-pub use database::{Database, MAX_TABLES, Table};
+pub use database::{Database, Table};
 pub use history::{Asked, Entries, Entry};
-pub use legal::run_slow;
+pub use limits::MAX_TABLES;
 pub use meaning::Meaning;
-pub use weights::weight;

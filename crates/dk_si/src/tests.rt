@@ -1,8 +1,10 @@
-use crate::{Asked, Database, Entry, Table, run_slow, weight};
-use dk_types::{
-    Bytes, ColType, Column, Holder, List, Net, OutOfMemory, Receipt, Refusal, Reply, Rows, Schema,
-    Set, Statement, TableNet, Value,
-};
+//! The tests of a creation and an insertion, and what is carried of stops and iterations.
+use crate::limits::MAX_ITERATION;
+use crate::meaning::{creation_refusal, fits};
+use crate::names::place_of;
+use crate::standing::Standing;
+use crate::{Asked, Entry, Table};
+use dk_types::{Bytes, ColType, Column, List, OutOfMemory, Reply, Row, Schema, Statement, Value};
 use std::alloc::Global;
 use std::test::Fail;
 
@@ -10,558 +12,99 @@ fn bytes(alloc: Global, text: &[u8]) -> Result<Bytes, OutOfMemory> {
     Ok(List::from_vec(Vec::from_slice(alloc, text)?))
 }
 
-/// A row of one number for each number.
-fn rows(alloc: Global, numbers: &[i64]) -> Result<Rows, OutOfMemory> {
-    let mut rows = List::new(alloc);
-    for number in numbers {
-        let mut row = List::new(alloc);
-        row.push(Value::Big(*number))?;
-        rows.push(row)?;
-    }
-    Ok(rows)
-}
-
-fn columns(alloc: Global) -> Result<Vec<Column>, OutOfMemory> {
+fn columns(alloc: Global, kind: ColType) -> Result<Vec<Column>, OutOfMemory> {
     let mut columns = Vec::new(alloc);
     columns.push(Column {
         name: bytes(alloc, b"a")?,
-        kind: ColType::Big,
+        kind,
     })?;
     Ok(columns)
 }
 
-/// A database with one table `t (a BIGINT)` that has these numbers.
-pub fn opened(alloc: Global, numbers: &[i64]) -> Result<Database, OutOfMemory> {
-    let mut tables = List::new(alloc);
-    if let Ok(schema) = Schema::new(columns(alloc)?) {
-        let mut present = List::new(alloc);
-        for row in rows(alloc, numbers)?.into_vec() {
-            present.push(Some(row))?;
-        }
-        let name = bytes(alloc, b"t")?;
-        tables.push(Table {
-            name,
-            schema,
-            rows: present,
-        })?;
-    }
-    Ok(tables)
+fn row(alloc: Global, value: Value) -> Result<Row, OutOfMemory> {
+    let mut row = List::new(alloc);
+    row.push(value)?;
+    Ok(row)
 }
 
-/// A net's part with new rows of one number each.
-fn added(alloc: Global, numbers: &[i64]) -> Result<TableNet, OutOfMemory> {
-    Ok(TableNet {
-        table: 0,
-        updates: List::new(alloc),
-        deletes: List::new(alloc),
-        rows: rows(alloc, numbers)?,
-    })
-}
-
-/// What a session does, in few words.
-#[derive(Clone, Copy)]
-pub enum Act<'a> {
-    /// CREATE TABLE t (a BIGINT)
-    Create,
-    /// SELECT of a table u, which is not there
-    SelectMissing,
-    Begin,
-    Commit,
-    Rollback,
-    Checkpoint,
-    /// UPDATE t SET a = the number
-    Update(i64),
-    Delete,
-    Select,
-    Insert(&'a [i64]),
-    Begun(u64, u64),
-    Started(u64),
-    Created(u64),
-    Rows(&'a [i64]),
-    Changed(u64),
-    /// The count and the number of the commit.
-    ChangedAt(u64, u64),
-    Committed(u64),
-    Ended,
-    Checkpointed(u64),
-    Refused(Refusal),
-}
-
-fn update(alloc: Global, number: i64) -> Result<Statement, OutOfMemory> {
-    let mut sets = List::new(alloc);
-    sets.push(Set {
-        column: bytes(alloc, b"a")?,
-        value: Value::Big(number),
+#[test]
+fn what_a_table_may_be_and_hold(rt: HostRuntime) -> Result<(), Fail> {
+    let alloc = rt.alloc();
+    let mut tables = Vec::new(alloc);
+    let big = columns(alloc, ColType::Big)?;
+    let Ok(schema) = Schema::new(columns(alloc, ColType::Big)?) else {
+        return Ok(());
+    };
+    assert!(rt; creation_refusal(&tables, b"t", &big).is_none());
+    tables.push(Table {
+        name: bytes(alloc, b"t")?,
+        schema,
+        rows: List::new(alloc),
     })?;
-    Ok(Statement::Update {
-        table: bytes(alloc, b"t")?,
-        sets,
-    })
+    assert!(rt; creation_refusal(&tables, b"t", &big).is_some());
+    assert!(rt; creation_refusal(&tables, b"u", &big).is_none());
+    assert!(rt; creation_refusal(&tables, b"u", &columns(alloc, ColType::Text)?).is_some());
+    assert!(rt; place_of(&tables, b"t") == Some(0));
+    let mut tuples = Vec::new(alloc);
+    tuples.push(row(alloc, Value::Big(1))?)?;
+    assert!(rt; fits(&big, &tuples));
+    tuples.push(row(alloc, Value::Null)?)?;
+    assert!(rt; !fits(&big, &tuples));
+    Ok(())
 }
 
-/// A disk's moment decides nothing.
-fn receipt(number: u64) -> Receipt {
-    Receipt { number, moment: 7 }
-}
-
-fn asked(session: u32, statement: Statement) -> Entry {
+fn checkpoint(session: u32) -> Entry {
     Entry::Call {
         session,
-        asked: Asked::Good(statement),
+        asked: Asked::Good(Statement::Checkpoint),
     }
 }
 
-fn told(session: u32, reply: Reply) -> Entry {
-    Entry::Reply { session, reply }
-}
-
-fn call(alloc: Global, session: u32, act: &Act<'_>) -> Result<Option<Entry>, OutOfMemory> {
-    let table = bytes(alloc, b"t")?;
-    Ok(match act {
-        Act::Create => {
-            let columns = List::from_vec(columns(alloc)?);
-            Some(asked(session, Statement::Create { table, columns }))
-        }
-        Act::SelectMissing => {
-            let table = bytes(alloc, b"u")?;
-            Some(asked(session, Statement::Select { table }))
-        }
-        Act::Begin => Some(asked(session, Statement::Begin)),
-        Act::Commit => Some(asked(session, Statement::Commit)),
-        Act::Rollback => Some(asked(session, Statement::Rollback)),
-        Act::Checkpoint => Some(asked(session, Statement::Checkpoint)),
-        Act::Update(number) => Some(asked(session, update(alloc, *number)?)),
-        Act::Delete => Some(asked(session, Statement::Delete { table })),
-        Act::Select => Some(asked(session, Statement::Select { table })),
-        Act::Insert(numbers) => {
-            let tuples = rows(alloc, numbers)?;
-            Some(asked(session, Statement::Insert { table, tuples }))
-        }
-        _ => None,
-    })
-}
-
-fn reply(alloc: Global, act: &Act<'_>) -> Result<Reply, OutOfMemory> {
-    Ok(match act {
-        Act::Started(start) => Reply::Begun { start: *start },
-        Act::Created(number) => Reply::Created {
-            receipt: receipt(*number),
-        },
-        Act::Rows(numbers) => Reply::Rows {
-            rows: rows(alloc, numbers)?,
-        },
-        Act::Changed(count) => Reply::Changed {
-            count: *count,
-            receipt: None,
-        },
-        Act::ChangedAt(count, number) => Reply::Changed {
-            count: *count,
-            receipt: Some(receipt(*number)),
-        },
-        Act::Committed(number) => Reply::Committed {
-            receipt: receipt(*number),
-        },
-        Act::Checkpointed(iteration) => Reply::Checkpointed {
-            iteration: *iteration,
-        },
-        Act::Refused(refusal) => Reply::Refused(*refusal),
-        _ => Reply::Ended,
-    })
-}
-
-fn entry(alloc: Global, session: u32, act: &Act<'_>) -> Result<Entry, OutOfMemory> {
-    if let Act::Begun(number, start) = act {
-        let (number, start) = (*number, *start);
-        return Ok(Entry::Begun {
-            session,
-            number,
-            start,
-        });
-    }
-    match call(alloc, session, act)? {
-        Some(entry) => Ok(entry),
-        None => Ok(told(session, reply(alloc, act)?)),
+fn checkpointed(session: u32, iteration: u64) -> Entry {
+    Entry::Reply {
+        session,
+        reply: Reply::Checkpointed { iteration },
     }
 }
 
-/// Whether these acts are a legal history of a database, opened at that iteration.
-pub fn is_legal_from(
+/// Carries one more entry, where its place can be counted.
+fn carry(
     alloc: Global,
-    opened: &Database,
-    iteration: u64,
-    acts: &[(u32, Act<'_>)],
-) -> Result<bool, OutOfMemory> {
-    let mut entries = List::new(alloc);
-    for (session, act) in acts {
-        entries.push(entry(alloc, *session, act)?)?;
+    standing: &mut Standing,
+    opened: u64,
+    entry: &Entry,
+) -> Result<(), OutOfMemory> {
+    if standing.place < u64::MAX {
+        standing.next(alloc, opened, entry)?;
     }
-    run_slow(alloc, opened, iteration, &entries)
+    Ok(())
 }
 
-/// Whether these acts are a legal history of `t` with the rows 1 and 2, opened at iteration 1.
-pub fn is_legal(alloc: Global, acts: &[(u32, Act<'_>)]) -> Result<bool, OutOfMemory> {
-    is_legal_from(alloc, &opened(alloc, &[1, 2])?, 1, acts)
-}
-
-/// Two sessions: the second updates and commits, and the first, which doesn't see it, then fails to update.
-const TWO_WRITERS: &[(u32, Act<'static>)] = &[
-    (1, Act::Begin),
-    (1, Act::Begun(0, 0)),
-    (1, Act::Started(0)),
-    (2, Act::Begin),
-    (2, Act::Begun(1, 0)),
-    (2, Act::Started(0)),
-    (2, Act::Update(9)),
-    (2, Act::Changed(2)),
-    (1, Act::Select),
-    (1, Act::Rows(&[1, 2])),
-    (2, Act::Commit),
-    (2, Act::Committed(1)),
-    (1, Act::Update(5)),
-    (
-        1,
-        Act::Refused(Refusal::Conflict {
-            table: 0,
-            row: 0,
-            by: Holder::Commit(1),
-        }),
-    ),
-    (1, Act::Select),
-    (1, Act::Refused(Refusal::Aborted)),
-    (1, Act::Rollback),
-    (1, Act::Ended),
-    (1, Act::Commit),
-    (1, Act::Refused(Refusal::NoTransaction)),
-];
-
-/// The two writers with another act at a place.
-fn with_act(alloc: Global, place: usize, act: (u32, Act<'static>)) -> Result<bool, OutOfMemory> {
-    let mut acts = Vec::new(alloc);
-    for (i, other) in TWO_WRITERS.iter().enumerate() {
-        if i == place {
-            acts.push(act)?;
-        } else {
-            acts.push(*other)?;
-        }
-    }
-    is_legal(alloc, acts.as_slice())
-}
-
-/// The first acts of the two writers, and others behind them.
-fn first_then(
+fn stands_on(
     alloc: Global,
-    count: usize,
-    more: &[(u32, Act<'static>)],
+    standing: &Standing,
+    opened: u64,
+    entry: &Entry,
 ) -> Result<bool, OutOfMemory> {
-    let mut acts = Vec::new(alloc);
-    for (i, other) in TWO_WRITERS.iter().enumerate() {
-        if i < count {
-            acts.push(*other)?;
-        }
+    if standing.place < u64::MAX {
+        return standing.stands_on(alloc, opened, entry);
     }
-    for act in more {
-        acts.push(*act)?;
-    }
-    is_legal(alloc, acts.as_slice())
-}
-
-pub fn conflict(row: u64, by: Holder) -> Act<'static> {
-    Act::Refused(Refusal::Conflict { table: 0, row, by })
+    Ok(false)
 }
 
 #[test]
-fn two_writers_of_one_row(rt: HostRuntime) -> Result<(), Fail> {
+fn iterations_are_carried_from_entry_to_entry(rt: HostRuntime) -> Result<(), Fail> {
     let alloc = rt.alloc();
-    assert!(rt; is_legal(alloc, &[])?);
-    assert!(rt; is_legal(alloc, TWO_WRITERS)?);
-    // any row that both change may be named, and no other
-    assert!(rt; with_act(alloc, 13, (1, conflict(1, Holder::Commit(1))))?);
-    assert!(rt; !with_act(alloc, 13, (1, conflict(2, Holder::Commit(1))))?);
-    // the commit that holds it, and no other
-    assert!(rt; !with_act(alloc, 13, (1, conflict(0, Holder::Commit(0))))?);
-    assert!(rt; !with_act(alloc, 13, (1, conflict(0, Holder::Commit(2))))?);
-    // the entry that ended the other transaction is its session's last one, so it may be named by its number
-    assert!(rt; with_act(alloc, 13, (1, conflict(0, Holder::Transaction(1))))?);
-    assert!(rt; !with_act(alloc, 13, (1, conflict(0, Holder::Transaction(0))))?);
-    // the update must not be made
-    assert!(rt; !with_act(alloc, 13, (1, Act::Changed(2)))?);
-    Ok(())
-}
-
-#[test]
-fn what_is_no_step_is_refused(rt: HostRuntime) -> Result<(), Fail> {
-    let alloc = rt.alloc();
-    // a number of a commit that is skipped, and one that is given twice
-    assert!(rt; !with_act(alloc, 11, (2, Act::Committed(2)))?);
-    assert!(rt;
-        !first_then(
-            alloc,
-            12,
-            &[
-                (2, Act::Insert(&[3])),
-                (2, Act::Begun(2, 1)),
-                (2, Act::ChangedAt(1, 1))
-            ]
-        )?
-    );
-    assert!(rt;
-        first_then(
-            alloc,
-            12,
-            &[
-                (2, Act::Insert(&[3])),
-                (2, Act::Begun(2, 1)),
-                (2, Act::ChangedAt(1, 2))
-            ]
-        )?
-    );
-    // a read that sees a commit above its start, and one that misses a commit
-    assert!(rt; !first_then(alloc, 12, &[(1, Act::Select), (1, Act::Rows(&[9, 9]))])?);
-    assert!(rt;
-        !first_then(
-            alloc,
-            12,
-            &[
-                (3, Act::Select),
-                (3, Act::Begun(2, 1)),
-                (3, Act::Rows(&[1, 2]))
-            ]
-        )?
-    );
-    assert!(rt;
-        first_then(
-            alloc,
-            12,
-            &[
-                (3, Act::Select),
-                (3, Act::Begun(2, 1)),
-                (3, Act::Rows(&[9, 9]))
-            ]
-        )?
-    );
-    // a snapshot without a commit whose number was given out
-    assert!(rt;
-        !first_then(
-            alloc,
-            12,
-            &[
-                (3, Act::Select),
-                (3, Act::Begun(2, 0)),
-                (3, Act::Rows(&[1, 2]))
-            ]
-        )?
-    );
-    // a second Begun for one call, a reply without a call, a second call
-    assert!(rt; !first_then(alloc, 2, &[(1, Act::Begun(1, 0))])?);
-    assert!(rt; !first_then(alloc, 3, &[(1, Act::Ended)])?);
-    assert!(rt; !first_then(alloc, 1, &[(1, Act::Select)])?);
-    Ok(())
-}
-
-#[test]
-fn an_open_transaction_holds_what_it_changed(rt: HostRuntime) -> Result<(), Fail> {
-    let alloc = rt.alloc();
-    // before the other one commits, its number is named
-    let update = (1, Act::Update(5));
-    assert!(rt;
-        first_then(
-            alloc,
-            8,
-            &[update, (1, conflict(0, Holder::Transaction(1)))]
-        )?
-    );
-    assert!(rt; !first_then(alloc, 8, &[update, (1, conflict(0, Holder::Commit(1)))])?);
-    assert!(rt; !first_then(alloc, 8, &[update, (1, Act::Changed(2))])?);
-    // a ROLLBACK in flight lets the rows go, and its session still holds them
-    let rollback = (2, Act::Rollback);
-    assert!(rt; first_then(alloc, 8, &[rollback, update, (1, Act::Changed(2))])?);
-    assert!(rt;
-        first_then(
-            alloc,
-            8,
-            &[rollback, update, (1, conflict(0, Holder::Transaction(1)))]
-        )?
-    );
-    // behind another call of that session nothing holds them
-    let ended = (2, Act::Ended);
-    assert!(rt;
-        !first_then(
-            alloc,
-            8,
-            &[
-                rollback,
-                ended,
-                (2, Act::Begin),
-                update,
-                (1, conflict(0, Holder::Transaction(1)))
-            ]
-        )?
-    );
-    assert!(rt;
-        first_then(
-            alloc,
-            8,
-            &[
-                rollback,
-                ended,
-                (2, Act::Begin),
-                update,
-                (1, Act::Changed(2))
-            ]
-        )?
-    );
-    Ok(())
-}
-
-#[test]
-fn own_rows_stand_last_and_close_up(rt: HostRuntime) -> Result<(), Fail> {
-    let alloc = rt.alloc();
-    let insert = (1, Act::Insert(&[3, 4]));
-    let changed = (1, Act::Changed(2));
-    let select = (1, Act::Select);
-    assert!(rt;
-        first_then(
-            alloc,
-            3,
-            &[insert, changed, select, (1, Act::Rows(&[1, 2, 3, 4]))]
-        )?
-    );
-    assert!(rt;
-        first_then(
-            alloc,
-            3,
-            &[
-                insert,
-                changed,
-                (1, Act::Update(7)),
-                (1, Act::Changed(4)),
-                select,
-                (1, Act::Rows(&[7, 7, 7, 7]))
-            ]
-        )?
-    );
-    assert!(rt;
-        first_then(
-            alloc,
-            3,
-            &[
-                insert,
-                changed,
-                (1, Act::Delete),
-                (1, Act::Changed(4)),
-                select,
-                (1, Act::Rows(&[]))
-            ]
-        )?
-    );
-    assert!(rt;
-        !first_then(
-            alloc,
-            3,
-            &[insert, changed, (1, Act::Delete), (1, Act::Changed(2))]
-        )?
-    );
-    // own rows that are deleted leave an empty net, which ends without a number
-    let own = &[insert, changed, (1, Act::Rollback), (1, Act::Ended)];
-    assert!(rt; first_then(alloc, 3, own)?);
-    assert!(rt; first_then(alloc, 3, &[(1, Act::Commit), (1, Act::Ended)])?);
-    assert!(rt; !first_then(alloc, 3, &[(1, Act::Commit), (1, Act::Committed(1))])?);
-    assert!(rt;
-        !first_then(
-            alloc,
-            3,
-            &[insert, changed, (1, Act::Commit), (1, Act::Ended)]
-        )?
-    );
-    Ok(())
-}
-
-#[test]
-fn stops_and_iterations_over_the_whole_list(rt: HostRuntime) -> Result<(), Fail> {
-    let alloc = rt.alloc();
-    let stop = Act::Refused(Refusal::DiskFault { stops: true });
-    let stopped = Act::Refused(Refusal::Stopped { first: 1 });
-    let insert = [(1, Act::Insert(&[3])), (1, Act::Begun(0, 0))];
-    let again = [(2, Act::Insert(&[3])), (2, Act::Begun(1, 0))];
-    // a commit after a stop, and what comes in its place
-    assert!(rt;
-        is_legal(
-            alloc,
-            &[
-                insert[0],
-                insert[1],
-                (1, stop),
-                again[0],
-                again[1],
-                (2, stopped)
-            ]
-        )?
-    );
-    assert!(rt;
-        !is_legal(
-            alloc,
-            &[
-                insert[0],
-                insert[1],
-                (1, stop),
-                again[0],
-                again[1],
-                (2, Act::ChangedAt(1, 1))
-            ]
-        )?
-    );
-    assert!(rt; !is_legal(alloc, &[again[0], (2, Act::Begun(0, 0)), (2, stopped)])?);
-    // one iteration after the other
-    let checkpoint = (1, Act::Checkpoint);
-    assert!(rt;
-        is_legal(
-            alloc,
-            &[
-                checkpoint,
-                (1, Act::Checkpointed(2)),
-                checkpoint,
-                (1, Act::Checkpointed(3))
-            ]
-        )?
-    );
-    assert!(rt; !is_legal(alloc, &[checkpoint, (1, Act::Checkpointed(3))])?);
-    assert!(rt;
-        is_legal(
-            alloc,
-            &[(2, Act::Checkpoint), checkpoint, (1, Act::Checkpointed(3))]
-        )?
-    );
-    assert!(rt;
-        !is_legal(
-            alloc,
-            &[
-                checkpoint,
-                (1, Act::Checkpointed(2)),
-                checkpoint,
-                (1, Act::Checkpointed(2))
-            ]
-        )?
-    );
-    assert!(rt; !is_legal(alloc, &[checkpoint, (1, Act::Checkpointed(1))])?);
-    Ok(())
-}
-
-/// A net of one part, or none where that changes nothing.
-fn net_of(alloc: Global, part: TableNet) -> Result<Net, OutOfMemory> {
-    let mut net = Net::new(alloc);
-    if part.changes() {
-        net.push(part)?;
-    }
-    Ok(net)
-}
-
-#[test]
-fn a_net_weighs_its_record(rt: HostRuntime) -> Result<(), Fail> {
-    let alloc = rt.alloc();
-    // a tag and a count of tables
-    assert_eq!(rt; weight(&Net::new(alloc)), 3);
-    // a table's number and four counts, and two rows of a byte and a number
-    let net = net_of(alloc, added(alloc, &[3, 4])?)?;
-    assert_eq!(rt; weight(&net), 3 + 20 + 2 * 9);
+    let mut standing = Standing::new(alloc);
+    let opened = MAX_ITERATION - 2;
+    carry(alloc, &mut standing, opened, &checkpoint(1))?;
+    assert!(rt; stands_on(alloc, &standing, opened, &checkpointed(1, opened + 1))?);
+    assert!(rt; !stands_on(alloc, &standing, opened, &checkpointed(1, opened + 2))?);
+    // another checkpoint in flight may have written the one that is left out
+    carry(alloc, &mut standing, opened, &checkpoint(2))?;
+    assert!(rt; stands_on(alloc, &standing, opened, &checkpointed(1, opened + 2))?);
+    carry(alloc, &mut standing, opened, &checkpointed(1, opened + 2))?;
+    assert!(rt; stands_on(alloc, &standing, opened, &checkpointed(2, opened + 1))?);
+    assert!(rt; !stands_on(alloc, &standing, opened, &checkpointed(2, opened + 3))?);
     Ok(())
 }

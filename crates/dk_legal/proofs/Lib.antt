@@ -1,0 +1,5 @@
+pub mod PutLemmas
+pub mod RefusedSinceLemmas
+pub mod TupleLemmas
+pub mod CapLemmas
+pub mod SetLemmas
