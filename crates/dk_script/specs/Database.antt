@@ -1,6 +1,6 @@
 -- The database, and how many commits there were.
 use Rattle.std.specs.Prelude.{ℕ, List, [], Option, option_map, unwrap_or, slice_get}
-use Rattle.dk_types.specs.declared.value.Value.{Value}
+use Rattle.dk_values.specs.declared.value.Value.{Value}
 use Rattle.dk_si.specs.declared.database.Table.{Table}
 
 pub record Database : Type 0 where

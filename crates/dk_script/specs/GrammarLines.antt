@@ -2,7 +2,7 @@
 use Rattle.std.specs.Prelude.{◌≡◌, ◌<◌, ◌≤◌, ◌⊎◌, ℕ, Bool, true, not, ◌==◌, List, [], ◌∷◌, ◌++◌, length, map, Option, IsUtf8, codes, decimal}
 use Rattle.std.specs.List.{list_all}
 use Rattle.std.specs.Str.Lines.{strip_carriage_return}
-use Rattle.dk_io.specs.Lines.{told}
+use Rattle.dk_io.specs.Lines.{line_content}
 
 -- no line feed stands among the bytes
 abbrev pub has_no_feed : List ℕ → Bool
@@ -19,10 +19,10 @@ AreRawLines script (line ∷ lines) =
 pub record AreLines (script : List ℕ) (lines : List (Option (List ℕ))) : Type 0 where
   pub raw : List (List ℕ)
   pub split : AreRawLines script raw
-  pub told : lines ≡ map (λ line. told (strip_carriage_return line)) raw
+  pub contents : lines ≡ map (λ line. line_content (strip_carriage_return line)) raw
 
 -- a session's number from 1 to 32, `: `, the text of a statement in UTF-8, and `;`
-pub record IsAsk (line : List ℕ) (session : ℕ) (text : List ℕ) : Type 0 where
+pub record IsRequest (line : List ℕ) (session : ℕ) (text : List ℕ) : Type 0 where
   pub spelled : line ≡ decimal session ++ (codes ": " ++ (text ++ codes ";"))
   pub least : 1 ≤ session
   pub most : session ≤ 32

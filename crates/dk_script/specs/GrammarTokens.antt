@@ -1,14 +1,20 @@
 -- The tokens of a statement's text, and where they lie on its bytes.
-use Rattle.std.specs.Prelude.{◌≡◌, ℕ, Bool, true, false, ◌||◌, ◌==◌, List, [], ◌∷◌, ◌++◌, map}
+use Rattle.std.specs.Prelude.{◌≡◌, ℕ, Bool, true, false, ◌||◌, ◌==◌, List, [], ◌∷◌, ◌++◌, length, map}
 use Rattle.std.specs.List.{list_all}
 use Rattle.std.specs.Char.{to_ascii_lowercase}
-use Rattle.dk_script.specs.Words.{is_blank, is_digit, begins_word, goes_on_word, value_from}
+use Rattle.dk_script.specs.Words.{is_blank, is_digit, begins_word, continues_word, value_from}
 
--- a word, its letters folded to lower case; a number; a sign, which is one byte
+-- A word, its letters folded to lower case; a number; a sign, which is one byte. Before it stands how many bytes of the text
+-- are left from its first byte on.
 pub data Token : Type 0 where
-  Word : List ℕ → Token
-  Number : ℕ → Token
-  Sign : ℕ → Token
+  Word : ℕ → List ℕ → Token
+  Number : ℕ → ℕ → Token
+  Sign : ℕ → ℕ → Token
+
+abbrev pub left_of : Token → ℕ
+left_of (Word left word) = left
+left_of (Number left n) = left
+left_of (Sign left b) = left
 
 -- ( ) * , -
 abbrev pub is_sign : ℕ → Bool
@@ -21,19 +27,19 @@ begins test (b ∷ bytes) = test b
 
 -- the bytes are that token
 abbrev pub IsToken : List ℕ → Token → Type 0
-IsToken bytes (Word word) = (begins begins_word bytes ≡ true) × (list_all goes_on_word bytes ≡ true) × (word ≡ map to_ascii_lowercase bytes)
-IsToken bytes (Number n) = (begins is_digit bytes ≡ true) × (list_all is_digit bytes ≡ true) × (n ≡ value_from 0 bytes)
-IsToken bytes (Sign b) = (is_sign b ≡ true) × (bytes ≡ b ∷ [])
+IsToken bytes (Word left word) = (begins begins_word bytes ≡ true) × (list_all continues_word bytes ≡ true) × (word ≡ map to_ascii_lowercase bytes)
+IsToken bytes (Number left n) = (begins is_digit bytes ≡ true) × (list_all is_digit bytes ≡ true) × (n ≡ value_from 0 bytes)
+IsToken bytes (Sign left b) = (is_sign b ≡ true) × (bytes ≡ b ∷ [])
 
 -- the bytes behind a token make it longer
-abbrev pub goes_on : Token → List ℕ → Bool
-goes_on (Word word) rest = begins goes_on_word rest
-goes_on (Number n) rest = begins is_digit rest
-goes_on (Sign b) rest = false
+abbrev pub is_longer : Token → List ℕ → Bool
+is_longer (Word left word) rest = begins continues_word rest
+is_longer (Number left n) rest = begins is_digit rest
+is_longer (Sign left b) rest = false
 
 -- the text is these tokens, each as long as it can be, with blanks before, between and after them
 abbrev pub AreTokens : List ℕ → List Token → Type 0
 AreTokens text [] = list_all is_blank text ≡ true
 AreTokens text (token ∷ tokens) =
     (blanks bytes rest : List ℕ) × (text ≡ blanks ++ (bytes ++ rest)) × (list_all is_blank blanks ≡ true)
-    × IsToken bytes token × (goes_on token rest ≡ false) × AreTokens rest tokens
+    × IsToken bytes token × (left_of token ≡ length (bytes ++ rest)) × (is_longer token rest ≡ false) × AreTokens rest tokens

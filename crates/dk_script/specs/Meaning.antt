@@ -1,12 +1,12 @@
 -- What a statement does to the database in a transaction of its own, and what is replied. What it means there is the
 -- definition of the machine.
 use Rattle.std.specs.Prelude.{ℕ, ◌+◌, List, [], length, Some, None, if◌then◌else◌}
-use Rattle.dk_types.specs.declared.value.Value.{Value}
+use Rattle.dk_values.specs.declared.value.Value.{Value}
 use Rattle.dk_types.specs.declared.net.TableNet.{TableNet}
 use Rattle.dk_types.specs.declared.net.Commit.TheVariants as act
 use Rattle.dk_types.specs.Nets.{changes}
-use Rattle.dk_types.specs.declared.statement.Statement.{Statement}
-use Rattle.dk_types.specs.declared.statement.Statement.TheVariants as ask
+use Rattle.dk_syntax.specs.declared.statement.Statement.{Statement}
+use Rattle.dk_syntax.specs.declared.statement.Statement.TheVariants as statement
 use Rattle.dk_types.specs.declared.reply.Receipt.{Receipt}
 use Rattle.dk_types.specs.declared.reply.Reply.{Reply}
 use Rattle.dk_types.specs.declared.reply.Reply.TheVariants.{Created, Changed, Rows, Refused}
@@ -47,19 +47,14 @@ carried_out db meant.Nothing = unsupported db
 
 -- new rows in the table at a place
 abbrev pub added : Database → ℕ → List (List Value) → Reply × Database
-added db place tuples = changed db (length tuples) (record { table = place; updates = []; deletes = []; rows = tuples })
+added db place rows = changed db (length rows) (record { table = place; updates = []; deletes = []; rows = rows })
 
 -- the reply to a statement of the forms that scripts may have, and the database after it
 abbrev pub step : Database → Statement → Reply × Database
-step db (ask.Create name columns) = carried_out db (meaning db.tables (ask.Create name columns))
-step db (ask.Insert name tuples) = carried_out db (meaning db.tables (ask.Insert name tuples))
-step db (ask.Select name) = carried_out db (meaning db.tables (ask.Select name))
-step db (ask.Update name sets) = unsupported db
-step db (ask.Delete name) = unsupported db
-step db ask.Begin = unsupported db
-step db ask.Commit = unsupported db
-step db ask.Rollback = unsupported db
-step db ask.Checkpoint = unsupported db
+step db (statement.Create table columns) = carried_out db (meaning db.tables (statement.Create table columns))
+step db (statement.Insert table tuples) = carried_out db (meaning db.tables (statement.Insert table tuples))
+step db (statement.Select query) = carried_out db (meaning db.tables (statement.Select query))
+step db other = unsupported db
 
 -- the reply that an answer stands for: rows are named by their table
 abbrev pub reply_of : Database → Answer → Reply

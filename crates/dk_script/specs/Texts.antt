@@ -1,9 +1,9 @@
 -- The text of each reply, to the byte.
-use Rattle.std.specs.Prelude.{ℕ, Bool, true, false, List, [], ◌∷◌, ◌++◌, length, codes, decimal, flat_map, Option, Some, None}
+use Rattle.std.specs.Prelude.{ℕ, Bool, true, false, List, [], ◌∷◌, ◌++◌, length, codes, decimal, flat_map}
 use Rattle.std.specs.Fmt.{signed_decimal}
 use Rattle.dk_types.specs.Texts.{damage_text}
-use Rattle.dk_types.specs.declared.value.Value.{Value}
-use Rattle.dk_types.specs.declared.value.Value.TheVariants as value
+use Rattle.dk_values.specs.declared.value.Value.{Value}
+use Rattle.dk_values.specs.declared.value.Value.TheVariants as value
 use Rattle.dk_types.specs.declared.reply.Holder.{Holder}
 use Rattle.dk_types.specs.declared.reply.Holder.TheVariants as holder
 use Rattle.dk_types.specs.declared.reply.Reply.{Reply}
@@ -35,11 +35,6 @@ row_text (v ∷ values) = value_text v ++ more_values values ++ codes "\n"
 
 abbrev pub rows_text : List (List Value) → List ℕ
 rows_text rows = flat_map row_text rows
-
--- the line of a row, if it is there
-abbrev pub present_text : Option (List Value) → List ℕ
-present_text None = []
-present_text (Some row) = row_text row
 
 abbrev pub holder_text : Holder → List ℕ
 holder_text (holder.Transaction k) = codes " transaction " ++ decimal k
@@ -85,5 +80,5 @@ reply_text name (Checkpointed iteration) = codes "checkpointed " ++ decimal iter
 reply_text name (Refused refusal) = refusal_text name refusal ++ codes "\n"
 
 -- the reply to a session, with its number in front
-abbrev pub told_text : ℕ → List ℕ → Reply → List ℕ
-told_text session name reply = decimal session ++ codes " " ++ reply_text name reply
+abbrev pub session_text : ℕ → List ℕ → Reply → List ℕ
+session_text session name reply = decimal session ++ codes " " ++ reply_text name reply

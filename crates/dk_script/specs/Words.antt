@@ -1,10 +1,9 @@
 -- Blanks, words, numbers and signs, as they stand at the front of a text.
-use Rattle.std.specs.Prelude.{ℕ, ◌+◌, ◌-◌, ◌*◌, ◌^◌, Bool, ◌&&◌, ◌||◌, not, List, [], ◌∷◌, map, take, drop, ◌==◌, nat_lt, nat_le, bytes_eq, Option, Some, None, if◌then◌else◌}
+use Rattle.std.specs.Prelude.{ℕ, ◌+◌, ◌-◌, ◌*◌, ◌^◌, Bool, ◌&&◌, ◌||◌, not, List, [], ◌∷◌, length, map, take, drop, ◌==◌, nat_lt, nat_le, bytes_eq, codes, Option, Some, None, if◌then◌else◌}
 use Rattle.std.specs.List.{prefix_len, list_any}
 use Rattle.std.specs.Char.{to_ascii_lowercase}
-use Rattle.dk_types.specs.Names.{is_name}
-use Rattle.dk_script.specs.declared.words.TheConstants.{RESERVED}
-use Rattle.dk_script.specs.Reads.{Reader, ◌>>=◌}
+use Rattle.dk_values.specs.Names.{is_name}
+use Rattle.dk_script.specs.Readers.{Reader, ◌>>=◌}
 
 -- a space or a tab
 abbrev pub is_blank : ℕ → Bool
@@ -17,17 +16,21 @@ is_digit b = nat_le 48 b && nat_le b 57
 abbrev pub begins_word : ℕ → Bool
 begins_word b = (nat_le 65 b && nat_le b 90) || ((nat_le 97 b && nat_le b 122) || b == 95)
 
-abbrev pub goes_on_word : ℕ → Bool
-goes_on_word b = begins_word b || is_digit b
+abbrev pub continues_word : ℕ → Bool
+continues_word b = begins_word b || is_digit b
 
 -- the text from its first byte on that is no blank
 abbrev pub unblank : List ℕ → List ℕ
 unblank text = drop (prefix_len is_blank text) text
 
+-- how many bytes are left from there on
+abbrev pub bytes_left : List ℕ → ℕ
+bytes_left text = length (unblank text)
+
 -- how long the word at the front is
 abbrev pub word_len : List ℕ → ℕ
 word_len [] = 0
-word_len (b ∷ text) = if begins_word b then prefix_len goes_on_word (b ∷ text) else 0
+word_len (b ∷ text) = if begins_word b then prefix_len continues_word (b ∷ text) else 0
 
 -- a word, its letters folded to lower case
 abbrev pub word_in : List ℕ → Option (List ℕ × List ℕ)
@@ -43,9 +46,20 @@ keyword_at wanted text = do
   word ← word_at text
   if bytes_eq word.0 wanted then Some word.1 else None
 
--- a word of the language, which is no name
+-- the words of the language
+unfoldable pub reserved_words : List (List ℕ)
+reserved_words =
+    codes "and" ∷ codes "asc" ∷ codes "begin" ∷ codes "bigint" ∷ codes "boolean" ∷ codes "by" ∷
+    codes "checkpoint" ∷ codes "commit" ∷ codes "copy" ∷ codes "count" ∷ codes "create" ∷ codes "delete" ∷
+    codes "desc" ∷ codes "false" ∷ codes "from" ∷ codes "group" ∷ codes "insert" ∷ codes "integer" ∷
+    codes "into" ∷ codes "is" ∷ codes "limit" ∷ codes "max" ∷ codes "min" ∷ codes "not" ∷ codes "null" ∷
+    codes "or" ∷ codes "order" ∷ codes "rollback" ∷ codes "select" ∷ codes "set" ∷ codes "stdin" ∷
+    codes "sum" ∷ codes "table" ∷ codes "true" ∷ codes "update" ∷ codes "values" ∷ codes "varchar" ∷
+    codes "where" ∷ []
+
+-- one of these, which is no name
 abbrev pub is_reserved : List ℕ → Bool
-is_reserved word = list_any (λ reserved. bytes_eq reserved.now word) RESERVED
+is_reserved word = list_any (λ reserved. bytes_eq reserved word) reserved_words
 
 abbrev pub name_at : Reader (List ℕ)
 name_at text = do

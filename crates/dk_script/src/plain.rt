@@ -1,24 +1,25 @@
-//! What a small script prints, told plainly: all lines first, then each in turn. It is slow, takes memory for the whole
+//! What a small script prints, written plainly: all lines first, then each in turn. It is slow, takes memory for the whole
 //! output, and is there to compare a run with.
 ghost use Rattle.std.specs.Prelude.{◌≡◌, ◌+◌, ◌^◌, ◌<◌, ◌≤◌, ◌++◌, true, false, Ok, Some, IfOk, OnOk};
 ghost use Rattle.std.specs.Str.Lines.{strip_carriage_return};
-ghost use Rattle.dk_io.specs.Lines.{told, told_lines};
-ghost use Rattle.dk_script.specs.Answers.{body_text};
-ghost use Rattle.dk_si.specs.Database.{present};
+ghost use Rattle.dk_io.specs.Lines.{line_content, line_contents};
+ghost use Rattle.dk_script.specs.AnswerTexts.{body_text};
 ghost use Rattle.dk_script.specs.GrammarLines.{AreLines};
-ghost use Rattle.dk_script.specs.Script.{ask_in, is_good, ask_text, ask_after, script_output};
+ghost use Rattle.dk_script.specs.LastLine.{bad_line_text, end_text};
+ghost use Rattle.dk_script.specs.Script.{request_in, is_good, request_text, request_after, first_bad_line, script_output};
 ghost use Rattle.dk_script.specs.Texts.{rows_text};
 
-use crate::line::{MAX_LINE, ask_of};
-use crate::output::{put_head, put_present};
+use crate::line::{MAX_LINE, request_of};
+use crate::output::put_head;
 use crate::run::reply;
 use crate::store::{Answer, Store};
-use dk_types::{Bytes, List, OutOfMemory, Row};
+use crate::text::{put, put_counted, put_row};
+use dk_types::{Bytes, List, OutOfMemory, Rows};
 use std::alloc::Global;
 
 /// A line without the carriage return at its end, none where it is passed over.
-fn told(line: Vec<u8>) -> Option<Bytes>
-    ensures { result ≡ told (strip_carriage_return line.items) }
+fn line_content(line: Vec<u8>) -> Option<Bytes>
+    ensures { result ≡ line_content (strip_carriage_return line.items) }
 {
     let mut line = line;
     if let [.., b'\r'] = line.as_slice() {
@@ -33,20 +34,20 @@ fn told(line: Vec<u8>) -> Option<Bytes>
 
 /// The lines of a script, a byte at a time.
 fn read_lines(alloc: Global, script: &[u8]) -> Result<Vec<Option<Bytes>>, OutOfMemory>
-    ensures { IfOk result (λ lines. lines.items ≡ told_lines script.now) }
+    ensures { IfOk result (λ lines. lines.items ≡ line_contents script.now) }
 {
     let mut lines = Vec::new(alloc);
     let mut begun = Vec::new(alloc);
     for byte in script {
         if *byte == b'\n' {
-            lines.push(told(begun))?;
+            lines.push(line_content(begun))?;
             begun = Vec::new(alloc);
         } else {
             begun.push(*byte)?;
         }
     }
     if !begun.is_empty() {
-        lines.push(told(begun))?;
+        lines.push(line_content(begun))?;
     }
     Ok(lines)
 }
@@ -56,17 +57,17 @@ pub fn lines_of(alloc: Global, script: &[u8]) -> Result<Vec<Option<Bytes>>, OutO
     // What is read are the lines of the grammar, and it has no others.
     ensures found { IfOk result (λ read. AreLines script.now read.items) }
     ensures only { (lines : _) → AreLines script.now lines → IfOk result (λ read. read.items ≡ lines) }
-    ensures exact { IfOk result (λ read. read.items ≡ told_lines script.now) }
+    ensures exact { IfOk result (λ read. read.items ≡ line_contents script.now) }
 {
     read_lines(alloc, script)
 }
 
-/// Puts the rows that are there.
-fn put_rows(out: &mut Vec<u8>, rows: &[Option<Row>]) -> Result<(), OutOfMemory>
-    ensures { OnOk result (out.new.items ≡ out.old.items ++ rows_text (present rows.now)) }
+/// Puts rows at the end, a line each.
+fn put_rows(out: &mut Vec<u8>, rows: &Rows) -> Result<(), OutOfMemory>
+    ensures { OnOk result (out.new.items ≡ out.old.items ++ rows_text rows.now) }
 {
-    for row in rows {
-        put_present(out, row)?;
+    'rows: for i in 0..rows.len() {
+        put_row(out, &rows.get(i))?;
     }
     Ok(())
 }
@@ -76,13 +77,16 @@ fn put_body(out: &mut Vec<u8>, store: &Store, answer: Answer) -> Result<(), OutO
     ensures { OnOk result (out.new.items ≡ out.old.items ++ body_text store.now answer) }
 {
     match answer {
-        Answer::Rows { place } => put_rows(out, store.rows(place)),
+        Answer::Rows { place } => match store.rows(place) {
+            Some(rows) => put_rows(out, rows),
+            None => Ok(()),
+        },
         _ => Ok(()),
     }
 }
 
 /// Answers a line: false where it is outside the grammar.
-fn answer(
+fn answer_line(
     alloc: Global,
     store: &mut Store,
     out: &mut Vec<u8>,
@@ -90,8 +94,9 @@ fn answer(
 ) -> Result<bool, OutOfMemory>
     requires { store.old.commits + 1 < 2 ^ 64 }
     ensures good { result ≡ Ok true → is_good (Some line.now) ≡ true }
-    ensures text { result ≡ Ok true → out.new.items ≡ out.old.items ++ ask_text store.old (ask_in (Some line.now)) }
-    ensures state { result ≡ Ok true → store.new ≡ ask_after store.old (ask_in (Some line.now)) }
+    ensures text { result ≡ Ok true
+        → out.new.items ≡ out.old.items ++ request_text store.old (request_in (Some line.now)) }
+    ensures state { result ≡ Ok true → store.new ≡ request_after store.old (request_in (Some line.now)) }
     ensures bad { result ≡ Ok false → is_good (Some line.now) ≡ false }
     ensures same { result ≡ Ok false → out.new.items ≡ out.old.items }
     ensures commits { OnOk result (store.new.commits ≤ store.old.commits + 1) }
@@ -99,7 +104,7 @@ fn answer(
     if line.len() > MAX_LINE {
         return Ok(false);
     }
-    let Some((session, text)) = ask_of(line) else {
+    let Some((session, text)) = request_of(line) else {
         return Ok(false);
     };
     let answer = reply(alloc, store, session, text)?;
@@ -109,7 +114,7 @@ fn answer(
 }
 
 /// Answers a line, if it is not passed over: false where it is outside the grammar.
-fn answer_told(
+fn answer_if_kept(
     alloc: Global,
     store: &mut Store,
     out: &mut Vec<u8>,
@@ -117,27 +122,38 @@ fn answer_told(
 ) -> Result<bool, OutOfMemory>
     requires { store.old.commits + 1 < 2 ^ 64 }
     ensures good { result ≡ Ok true → is_good line.now ≡ true }
-    ensures text { result ≡ Ok true → out.new.items ≡ out.old.items ++ ask_text store.old (ask_in line.now) }
-    ensures state { result ≡ Ok true → store.new ≡ ask_after store.old (ask_in line.now) }
+    ensures text { result ≡ Ok true → out.new.items ≡ out.old.items ++ request_text store.old (request_in line.now) }
+    ensures state { result ≡ Ok true → store.new ≡ request_after store.old (request_in line.now) }
     ensures bad { result ≡ Ok false → is_good line.now ≡ false }
     ensures same { result ≡ Ok false → out.new.items ≡ out.old.items }
     ensures commits { OnOk result (store.new.commits ≤ store.old.commits + 1) }
 {
     match line {
-        Some(line) => answer(alloc, store, out, line.as_slice()),
+        Some(line) => answer_line(alloc, store, out, line.as_slice()),
         None => Ok(true),
     }
 }
 
-/// What a script prints, up to its first line that is outside the grammar.
+/// Puts the last line of a script that has a bad line.
+fn put_bad_line(out: &mut Vec<u8>, line: u64) -> Result<(), OutOfMemory>
+    ensures { OnOk result (out.new.items ≡ out.old.items ++ bad_line_text line) }
+{
+    put_counted(out, b"bad line ", line)?;
+    put(out, b"\n")
+}
+
+/// What a script prints, up to its end or its first line that is outside the grammar, which the last line names.
 pub fn plain_output(alloc: Global, script: &[u8]) -> Result<Vec<u8>, OutOfMemory>
-    ensures { IfOk result (λ out. out.items ≡ script_output script.now) }
+    ensures { IfOk result (λ out. out.items ≡ script_output script.now ++ end_text (first_bad_line script.now)) }
 {
     let lines = lines_of(alloc, script)?;
     let mut store = Store::new(alloc);
     let mut out = Vec::new(alloc);
+    let mut number = 0;
     for line in lines.as_slice() {
-        if !answer_told(alloc, &mut store, &mut out, line)? {
+        number += 1;
+        if !answer_if_kept(alloc, &mut store, &mut out, line)? {
+            put_bad_line(&mut out, number)?;
             return Ok(out);
         }
     }

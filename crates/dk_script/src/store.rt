@@ -1,12 +1,17 @@
 //! The tables, and the statements on them.
-ghost use Rattle.std.specs.Prelude.{◌≡◌, ◌+◌, ◌^◌, ◌<◌, ◌≤◌, [], map, length, Some, IfOk, OnOk, OnErr};
+ghost use Rattle.std.specs.Prelude.{◌≡◌, ◌+◌, ◌^◌, ◌<◌, ◌≤◌, ◌++◌, [], map, length, slice_get, unwrap_or, Some, IfOk, OnOk, OnErr};
+ghost use Rattle.std.specs.Option.{option_copied};
+ghost use Rattle.dk_si.specs.Database.{present};
+ghost use Rattle.dk_si.specs.Meaning.{columns_of, is_whole};
 ghost use Rattle.dk_script.specs.Database.{rows_at};
+ghost use Rattle.dk_script.specs.FittingRows.{fitting_row, fitting_rows};
 
-use dk_si::database::place_of;
-use dk_si::meaning::{all_big, fits};
-use dk_si::{MAX_TABLES, Table};
+use dk_si::MAX_TABLES;
+use dk_si::meaning::{creation_refusal, is_fitting};
+use dk_si::names::{Named, place_of};
 use dk_types::{
-    Bytes, Columns, List, OptionRows, OutOfMemory, Receipt, Refusal, Row, Rows, Schema, Statement,
+    Bytes, Column, ColumnSpots, Items, List, OutOfMemory, Query, Receipt, Refusal, Row, Rows,
+    Schema, Spot, Statement, Tuple, Tuples, literals,
 };
 use std::alloc::Global;
 use std::marker::Model;
@@ -31,10 +36,66 @@ pub enum Answer {
 /// The answer to a statement of a form that is not built, or that the tables refuse.
 pub const UNSUPPORTED: Answer = Answer::Refused(Refusal::Unsupported);
 
+/// A table. No row is deleted yet, so every row is there.
+#[derive(Debug, Drop)]
+struct StoredTable {
+    name: Bytes,
+    schema: Schema,
+    rows: Rows,
+}
+
+impl Model for StoredTable {
+    ghost use Rattle.std.specs.Prelude.{map, Some};
+    ghost use Rattle.dk_si.specs.declared.database.Table.{Table};
+
+    ghost Value = { Table };
+
+    ghost view = { λ table. record { name = table.name; schema = table.schema; rows = map Some table.rows } };
+}
+
+impl Named for StoredTable {
+    ghost name = { λ table. table.name };
+
+    fn name(&self) -> &[u8] {
+        self.name.as_slice()
+    }
+}
+
+impl StoredTable {
+    /// A table without rows.
+    fn new(alloc: Global, name: Bytes, schema: Schema) -> StoredTable
+        ensures { result ≡ record { name = name; schema = schema; rows = [] } }
+    {
+        let rows = Rows::new(alloc);
+        StoredTable { name, schema, rows }
+    }
+
+    fn schema(&self) -> &[Column]
+        ensures { result.now ≡ self.now.schema }
+    {
+        self.schema.as_slice()
+    }
+
+    /// Adds rows at the end.
+    #[tactic(auto, using(crate::proofs::StoredRowLemmas::rows_appended))]
+    fn append(&mut self, rows: Rows) -> Result<(), OutOfMemory>
+        ensures ok { OnOk result (self.new ≡ record self.old { rows = self.old.rows ++ map Some rows }) }
+        ensures err { OnErr result (self.new ≡ self.old) }
+    {
+        self.rows.append(rows)
+    }
+
+    fn rows(&self) -> &Rows
+        ensures { self.now.rows ≡ map Some result.now }
+    {
+        &self.rows
+    }
+}
+
 /// The tables, in the order of their creation, and how many commits there were.
 #[derive(Debug, Drop)]
 pub struct Store {
-    tables: Vec<Table>,
+    tables: Vec<StoredTable>,
     commits: u64,
 }
 
@@ -69,8 +130,10 @@ impl Store {
         match statement {
             Statement::Create { table, columns } => self.create(alloc, table, columns),
             Statement::Insert { table, tuples } => self.insert(alloc, table, tuples),
-            Statement::Select { table } => Ok(self.select(table)),
-            Statement::Update { .. }
+            Statement::Select { query } => Ok(self.select(&query)),
+            Statement::InsertSelect { .. }
+            | Statement::Copy { .. }
+            | Statement::Update { .. }
             | Statement::Delete { .. }
             | Statement::Begin
             | Statement::Commit
@@ -79,38 +142,44 @@ impl Store {
         }
     }
 
-    /// The rows of the table at a place, none where there is no table.
-    pub fn rows(&self, place: usize) -> &[Option<Row>]
-        ensures { result.now ≡ rows_at place self.now.tables }
+    /// The rows of the table at a place, if there is one.
+    pub fn rows(&self, place: usize) -> Option<&Rows>
+        ensures { present (rows_at place self.now.tables) ≡ unwrap_or (option_copied result) [] }
     {
-        match self.tables.get(place) {
-            Some(table) => table.rows.as_slice(),
-            None => &[],
+        if place >= self.tables.len() {
+            return None;
         }
+        Some(self.table(place).rows())
+    }
+
+    fn table(&self, place: usize) -> &StoredTable
+        requires { place < length self.now.tables }
+        ensures { slice_get self.now.tables place ≡ Some result.now }
+    {
+        &self.tables[place]
     }
 
     fn create(
         &mut self,
         alloc: Global,
-        name: Bytes,
-        columns: Columns,
+        table: Spot,
+        columns: ColumnSpots,
     ) -> Result<Answer, OutOfMemory>
         requires { self.old.commits + 1 < 2 ^ 64 }
-        ensures step { IfOk result (λ answer. step self.old (Statement.Create name columns) ≡ (reply_of self.new answer, self.new)) }
+        ensures step { IfOk result (λ answer.
+            step self.old (Statement.Create table columns) ≡ (reply_of self.new answer, self.new)) }
         ensures commits { OnOk result (self.new.commits ≤ self.old.commits + 1) }
         ensures err { OnErr result (self.new ≡ self.old) }
     {
-        if place_of(&self.tables, name.as_slice()).is_some()
-            || !all_big(columns.as_slice())
-            || self.tables.len() >= MAX_TABLES
-        {
-            return Ok(UNSUPPORTED);
+        let columns = columns_of(alloc, columns)?;
+        if let Some(refusal) = creation_refusal(&self.tables, table.name.as_slice(), &columns) {
+            return Ok(Answer::Refused(refusal));
         }
-        let Ok(schema) = Schema::new(columns.into_vec()) else {
+        let Ok(schema) = Schema::new(columns) else {
             return Ok(UNSUPPORTED);
         };
-        let rows = List::new(alloc);
-        self.tables.push(Table { name, schema, rows })?;
+        self.tables
+            .push(StoredTable::new(alloc, table.name, schema))?;
         self.commits += 1;
         let receipt = Receipt {
             number: self.commits,
@@ -119,39 +188,40 @@ impl Store {
         Ok(Answer::Created { receipt })
     }
 
-    fn insert(&mut self, alloc: Global, name: Bytes, tuples: Rows) -> Result<Answer, OutOfMemory>
+    fn insert(&mut self, alloc: Global, table: Spot, tuples: Tuples) -> Result<Answer, OutOfMemory>
         requires { self.old.commits + 1 < 2 ^ 64 }
-        ensures step { IfOk result (λ answer. step self.old (Statement.Insert name tuples) ≡ (reply_of self.new answer, self.new)) }
+        ensures step { IfOk result (λ answer.
+            step self.old (Statement.Insert table tuples) ≡ (reply_of self.new answer, self.new)) }
         ensures commits { OnOk result (self.new.commits ≤ self.old.commits + 1) }
         ensures err { OnErr result (self.new ≡ self.old) }
     {
-        let Some(place) = place_of(&self.tables, name.as_slice()) else {
+        let Some(place) = place_of(&self.tables, table.name.as_slice()) else {
             return Ok(UNSUPPORTED);
         };
         if place >= MAX_TABLES {
             return Ok(UNSUPPORTED);
         }
-        if !fits(self.tables[place].schema.as_slice(), tuples.as_slice()) {
-            return Ok(UNSUPPORTED);
+        let schema = self.table(place).schema();
+        match fitting_rows(alloc, schema, tuples.as_slice())? {
+            Some(rows) => self.add(place, rows),
+            None => Ok(UNSUPPORTED),
         }
-        self.add(alloc, place, tuples)
     }
 
     /// Adds rows to the table at a place. Where there are none, nothing is committed.
-    fn add(&mut self, alloc: Global, place: usize, tuples: Rows) -> Result<Answer, OutOfMemory>
+    fn add(&mut self, place: usize, rows: Rows) -> Result<Answer, OutOfMemory>
         requires room { self.old.commits + 1 < 2 ^ 64 }
         requires within { place < length self.old.tables }
-        ensures step { IfOk result (λ answer. added self.old place tuples ≡ (reply_of self.new answer, self.new)) }
+        ensures step { IfOk result (λ answer. added self.old place rows ≡ (reply_of self.new answer, self.new)) }
         ensures commits { OnOk result (self.new.commits ≤ self.old.commits + 1) }
         ensures err { OnErr result (self.new ≡ self.old) }
     {
-        let count = tuples.len() as u64;
+        let count = rows.len() as u64;
         if count == 0 {
             let receipt = None;
             return Ok(Answer::Changed { count, receipt });
         }
-        let rows = as_present(alloc, tuples)?;
-        self.tables[place].rows.append(rows)?;
+        self.tables[place].append(rows)?;
         self.commits += 1;
         let receipt = Some(Receipt {
             number: self.commits,
@@ -160,23 +230,70 @@ impl Store {
         Ok(Answer::Changed { count, receipt })
     }
 
-    fn select(&self, name: Bytes) -> Answer
-        ensures { step self.now (Statement.Select name) ≡ (reply_of self.now result, self.now) }
+    #[tactic(auto, using(crate::proofs::StoredRowLemmas::select_not_whole))]
+    fn select(&self, query: &Query) -> Answer
+        ensures { step self.now (Statement.Select query.now) ≡ (reply_of self.now result, self.now) }
     {
-        match place_of(&self.tables, name.as_slice()) {
+        if !is_whole(query) {
+            return UNSUPPORTED;
+        }
+        match place_of(&self.tables, query.table.name.as_slice()) {
             Some(place) if place < MAX_TABLES => Answer::Rows { place },
             _ => UNSUPPORTED,
         }
     }
 }
 
-/// The rows as rows that are there.
-fn as_present(alloc: Global, rows: Rows) -> Result<OptionRows, OutOfMemory>
-    ensures { IfOk result (λ present. present ≡ map Some rows) }
+/// The columns that a CREATE TABLE lists.
+fn columns_of(alloc: Global, spots: ColumnSpots) -> Result<Vec<Column>, OutOfMemory>
+    ensures { IfOk result (λ columns. columns.items ≡ columns_of spots) }
 {
-    let mut present = Vec::with_capacity(alloc, rows.len())?;
-    for row in rows.into_vec() {
-        present.push(Some(row))?;
+    let mut columns = Vec::with_capacity(alloc, spots.len())?;
+    for spot in spots.into_vec() {
+        columns.push(Column {
+            name: spot.column.name,
+            kind: spot.kind,
+        })?;
     }
-    Ok(List::from_vec(present))
+    Ok(columns)
+}
+
+/// Whether a query is of all columns and all rows.
+fn is_whole(query: &Query) -> bool
+    ensures { result ≡ is_whole query.now }
+{
+    matches!(query.items, Items::All { .. })
+        && query.filter.is_none()
+        && query.groups.is_empty()
+        && query.keys.is_empty()
+        && query.limit.is_none()
+}
+
+/// The row that a tuple writes, if it fits.
+fn fitting_row(alloc: Global, schema: &[Column], tuple: &Tuple) -> Result<Option<Row>, OutOfMemory>
+    ensures { IfOk result (λ row. row ≡ fitting_row schema.now tuple.now) }
+{
+    match literals(alloc, tuple.values.as_slice())? {
+        Some(row) if is_fitting(schema, row.as_slice()) => Ok(Some(row)),
+        _ => Ok(None),
+    }
+}
+
+/// The rows that tuples write, if all of them fit.
+#[tactic(auto, using(crate::proofs::StoredRowLemmas::fits_start, crate::proofs::StoredRowLemmas::fits_more, crate::proofs::StoredRowLemmas::fits_no_more, crate::proofs::StoredRowLemmas::fits_end))]
+fn fitting_rows(
+    alloc: Global,
+    schema: &[Column],
+    tuples: &[Tuple],
+) -> Result<Option<Rows>, OutOfMemory>
+    ensures { IfOk result (λ rows. rows ≡ fitting_rows schema.now tuples.now) }
+{
+    let mut rows = Rows::new(alloc);
+    'tuples: for tuple in tuples {
+        match fitting_row(alloc, schema, tuple)? {
+            Some(row) => rows.push(row)?,
+            None => return Ok(None),
+        }
+    }
+    Ok(Some(rows))
 }

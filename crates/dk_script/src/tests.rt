@@ -1,3 +1,4 @@
+//! Scripts, with the output that the language gives them, and runs that faults end.
 use crate::plain::plain_output;
 use crate::serve::serve;
 use dk_device::MemoryDisk;
@@ -21,16 +22,20 @@ fn words(alloc: Global, texts: &[&str]) -> Result<Vec<String>, OutOfMemory> {
     Ok(words)
 }
 
-/// The output and the status of a run over a source and a sink that move three bytes a call and fail at these calls.
-fn run_failing(
+/// What a run printed, and the status that it ended with.
+#[derive(Debug, Drop)]
+struct Printed {
+    output: Vec<u8>,
+    status: Status,
+}
+
+/// What a run prints over this source and this sink.
+fn run_over(
     alloc: Global,
     texts: &[&str],
-    script: &[u8],
-    source_fails: Vec<u64>,
-    sink_fails: Vec<u64>,
-) -> Result<(Vec<u8>, Status), OutOfMemory> {
-    let mut source = MemorySource::new(bytes(alloc, script)?, source_fails, 3);
-    let mut sink = MemorySink::new(sink_fails, 3);
+    mut source: MemorySource,
+    mut sink: MemorySink,
+) -> Result<Printed, OutOfMemory> {
     let disk = MemoryDisk::new(Vec::new(alloc), Vec::new(alloc), Vec::new(alloc));
     let words = words(alloc, texts)?;
     let (status, _disk) = serve(
@@ -41,11 +46,33 @@ fn run_failing(
         disk,
         &NoPause,
     );
-    Ok((bytes(alloc, sink.bytes())?, status))
+    Ok(Printed {
+        output: bytes(alloc, sink.bytes())?,
+        status,
+    })
 }
 
-fn run(alloc: Global, script: &[u8]) -> Result<(Vec<u8>, Status), OutOfMemory> {
-    run_failing(alloc, &["run"], script, Vec::new(alloc), Vec::new(alloc))
+/// What a script prints, in pieces of three bytes.
+fn run(alloc: Global, script: &[u8]) -> Result<Printed, OutOfMemory> {
+    let source = MemorySource::new(bytes(alloc, script)?, Vec::new(alloc), 3);
+    run_over(alloc, &["run"], source, MemorySink::new(Vec::new(alloc), 3))
+}
+
+/// What the first script prints, where the source fails at these calls.
+fn run_failing(alloc: Global, calls: Vec<u64>) -> Result<Printed, OutOfMemory> {
+    let source = MemorySource::new(bytes(alloc, FIRST)?, calls, 3);
+    run_over(alloc, &["run"], source, MemorySink::new(Vec::new(alloc), 3))
+}
+
+/// What a long script prints, in large pieces.
+fn run_long(alloc: Global, script: Vec<u8>) -> Result<Printed, OutOfMemory> {
+    let source = MemorySource::new(script, Vec::new(alloc), 65_536);
+    run_over(
+        alloc,
+        &["run"],
+        source,
+        MemorySink::new(Vec::new(alloc), 64),
+    )
 }
 
 #[test]
@@ -101,11 +128,11 @@ fn scripts_are_answered(rt: HostRuntime) -> Result<(), Fail> {
         ),
     ];
     for (script, output, status) in &cases {
-        let (told, ended) = run(rt.alloc(), script)?;
-        assert_eq!(rt; told.as_slice(), *output);
+        let printed = run(rt.alloc(), script)?;
+        assert_eq!(rt; printed.output.as_slice(), *output);
+        assert_eq!(rt; printed.status, *status);
         let plain = plain_output(rt.alloc(), script)?;
-        assert!(rt; told.as_slice().starts_with(plain.as_slice()));
-        assert_eq!(rt; ended, *status);
+        assert_eq!(rt; plain.as_slice(), *output);
     }
     Ok(())
 }
@@ -113,34 +140,47 @@ fn scripts_are_answered(rt: HostRuntime) -> Result<(), Fail> {
 #[test]
 fn faults_end_a_run(rt: HostRuntime) -> Result<(), Fail> {
     let alloc = rt.alloc();
-    let none = Vec::new(alloc);
-    let (told, ended) = run_failing(alloc, &["run"], FIRST, vec![in alloc; 0]?, none)?;
-    assert_eq!(rt; told.as_slice(), b"read fault\n".as_slice());
-    assert_eq!(rt; ended, Status::ReadFault);
+    let printed = run_failing(alloc, vec![in alloc; 0]?)?;
+    assert_eq!(rt; printed.output.as_slice(), b"read fault\n".as_slice());
+    assert_eq!(rt; printed.status, Status::ReadFault);
     // The first line has 30 bytes, which ten calls give.
-    let none = Vec::new(alloc);
-    let (told, ended) = run_failing(alloc, &["run"], FIRST, vec![in alloc; 10]?, none)?;
-    assert_eq!(rt; told.as_slice(), b"1 created\nread fault\n".as_slice());
-    assert_eq!(rt; ended, Status::ReadFault);
-    let none = Vec::new(alloc);
-    let (told, ended) = run_failing(alloc, &["run"], FIRST, none, vec![in alloc; 0]?)?;
-    assert_eq!(rt; told.as_slice(), b"".as_slice());
-    assert_eq!(rt; ended, Status::WriteFault);
+    let printed = run_failing(alloc, vec![in alloc; 10]?)?;
+    assert_eq!(rt;
+        printed.output.as_slice(),
+        b"1 created\nread fault\n".as_slice()
+    );
+    assert_eq!(rt; printed.status, Status::ReadFault);
+    let source = MemorySource::new(bytes(alloc, FIRST)?, Vec::new(alloc), 3);
+    let sink = MemorySink::new(vec![in alloc; 0]?, 3);
+    let printed = run_over(alloc, &["run"], source, sink)?;
+    assert_eq!(rt; printed.output.as_slice(), b"".as_slice());
+    assert_eq!(rt; printed.status, Status::WriteFault);
     Ok(())
 }
 
 #[test]
-fn wrong_words_are_told(rt: HostRuntime) -> Result<(), Fail> {
+fn a_source_is_asked_no_more_once_it_has_ended(rt: HostRuntime) -> Result<(), Fail> {
+    let alloc = rt.alloc();
+    // Two calls give the six bytes, the third says that there are no more, and a fourth would fail.
+    let source = MemorySource::new(bytes(alloc, b"1: x;\r")?, vec![in alloc; 3]?, 3);
+    let printed = run_over(alloc, &["run"], source, MemorySink::new(Vec::new(alloc), 3))?;
+    assert_eq!(rt; printed.output.as_slice(), b"1 unsupported\n".as_slice());
+    assert_eq!(rt; printed.status, Status::Done);
+    Ok(())
+}
+
+#[test]
+fn wrong_words_get_the_usage_line(rt: HostRuntime) -> Result<(), Fail> {
     let alloc = rt.alloc();
     let wrong: [&[&str]; 4] = [&[], &["run", "x"], &["fill", "0", "1"], &["--help"]];
     for texts in &wrong {
-        let none = Vec::new(alloc);
-        let (told, ended) = run_failing(alloc, texts, FIRST, none, Vec::new(alloc))?;
+        let source = MemorySource::new(bytes(alloc, FIRST)?, Vec::new(alloc), 3);
+        let printed = run_over(alloc, texts, source, MemorySink::new(Vec::new(alloc), 3))?;
         assert_eq!(rt;
-            told.as_slice(),
+            printed.output.as_slice(),
             b"usage: run | beside | fill N SEED\n".as_slice()
         );
-        assert_eq!(rt; ended, Status::Usage);
+        assert_eq!(rt; printed.status, Status::Usage);
     }
     Ok(())
 }
@@ -152,34 +192,13 @@ fn a_line_ends_at_its_limit(rt: HostRuntime) -> Result<(), Fail> {
     line.extend_from_slice(b"x;\n")?;
     let mut script = bytes(alloc, b"1:")?;
     script.append(&mut line)?;
-    let mut source = MemorySource::new(script, Vec::new(alloc), 65_536);
-    let mut sink = MemorySink::new(Vec::new(alloc), 64);
-    let disk = MemoryDisk::new(Vec::new(alloc), Vec::new(alloc), Vec::new(alloc));
-    let words = words(alloc, &["run"])?;
-    let (status, _disk) = serve(
-        alloc,
-        words.as_slice(),
-        &mut source,
-        &mut sink,
-        disk,
-        &NoPause,
-    );
-    assert_eq!(rt; sink.bytes(), b"1 unsupported\n".as_slice());
-    assert_eq!(rt; status, Status::Done);
+    let printed = run_long(alloc, script)?;
+    assert_eq!(rt; printed.output.as_slice(), b"1 unsupported\n".as_slice());
+    assert_eq!(rt; printed.status, Status::Done);
     let mut script = vec![in alloc; b'1'; 16_777_217]?;
     script.extend_from_slice(b"\n")?;
-    let mut source = MemorySource::new(script, Vec::new(alloc), 65_536);
-    let mut sink = MemorySink::new(Vec::new(alloc), 64);
-    let disk = MemoryDisk::new(Vec::new(alloc), Vec::new(alloc), Vec::new(alloc));
-    let (status, _disk) = serve(
-        alloc,
-        words.as_slice(),
-        &mut source,
-        &mut sink,
-        disk,
-        &NoPause,
-    );
-    assert_eq!(rt; sink.bytes(), b"bad line 1\n".as_slice());
-    assert_eq!(rt; status, Status::BadLine { line: 1 });
+    let printed = run_long(alloc, script)?;
+    assert_eq!(rt; printed.output.as_slice(), b"bad line 1\n".as_slice());
+    assert_eq!(rt; printed.status, Status::BadLine { line: 1 });
     Ok(())
 }

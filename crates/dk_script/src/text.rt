@@ -1,10 +1,11 @@
 //! The texts of the replies.
-ghost use Rattle.std.specs.Prelude.{◌≡◌, ◌++◌, decimal, codes, OnOk, OnErr};
+ghost use Rattle.std.specs.Prelude.{◌≡◌, ◌<◌, ◌++◌, decimal, codes, drop, length, OnOk, OnErr};
+ghost use Rattle.dk_rows.specs.Cells.{value_of};
 ghost use Rattle.std.specs.Fmt.{signed_decimal};
 ghost use Rattle.dk_types.specs.Texts.{damage_text};
 ghost use Rattle.dk_script.specs.Texts.{value_text, more_values, row_text, holder_text, refusal_text};
 
-use dk_types::{Damage, Holder, OutOfMemory, Refusal, Row, Value};
+use dk_types::{Cell, Damage, Holder, OutOfMemory, Refusal, RowRef};
 use itoa::{Buffer, Integer};
 
 /// Puts bytes at the end.
@@ -32,43 +33,42 @@ pub fn put_counted(out: &mut Vec<u8>, words: &[u8], number: u64) -> Result<(), O
     put_number(out, number)
 }
 
-fn put_value(out: &mut Vec<u8>, value: &Value) -> Result<(), OutOfMemory>
-    ensures ok { OnOk result (out.new.items ≡ out.old.items ++ value_text value.now) }
+fn put_cell(out: &mut Vec<u8>, cell: Cell<'_>) -> Result<(), OutOfMemory>
+    ensures ok { OnOk result (out.new.items ≡ out.old.items ++ value_text (value_of cell.entry)) }
 {
-    match value {
-        Value::Null => Ok(()),
-        Value::Bool(true) => put(out, b"true"),
-        Value::Bool(false) => put(out, b"false"),
-        Value::Int(number) => put_number(out, *number),
-        Value::Big(number) => put_number(out, *number),
-        Value::Text(bytes) => put(out, bytes.as_slice()),
-        Value::Huge(number) => put_number(out, *number),
+    match cell {
+        Cell::Null => Ok(()),
+        Cell::Bool(true) => put(out, b"true"),
+        Cell::Bool(false) => put(out, b"false"),
+        Cell::Int(number) => put_number(out, number),
+        Cell::Big(number) => put_number(out, number),
+        Cell::Text(bytes) => put(out, bytes),
+        Cell::Huge(number) => put_number(out, number),
     }
 }
 
-/// Puts values at the end, each behind a comma.
-fn put_more(out: &mut Vec<u8>, values: &[Value]) -> Result<(), OutOfMemory>
-    ensures ok { OnOk result (out.new.items ≡ out.old.items ++ more_values values.now) }
+/// Puts the values behind the first one at the end, each behind a comma.
+fn put_more(out: &mut Vec<u8>, row: &RowRef<'_>) -> Result<(), OutOfMemory>
+    requires { 0 < length row.now }
+    ensures ok { OnOk result (out.new.items ≡ out.old.items ++ more_values (drop 1 row.now)) }
 {
-    for value in values {
+    'cells: for j in 1..row.len() {
         put(out, b",")?;
-        put_value(out, value)?;
+        put_cell(out, row.get(j))?;
     }
     Ok(())
 }
 
 /// Puts a line of a result at the end.
-pub fn put_row(out: &mut Vec<u8>, row: &Row) -> Result<(), OutOfMemory>
+pub fn put_row(out: &mut Vec<u8>, row: &RowRef<'_>) -> Result<(), OutOfMemory>
     ensures ok { OnOk result (out.new.items ≡ out.old.items ++ row_text row.now) }
 {
-    match row.as_slice() {
-        [] => put(out, b"\n"),
-        [first, more @ ..] => {
-            put_value(out, first)?;
-            put_more(out, more)?;
-            put(out, b"\n")
-        }
+    if row.is_empty() {
+        return put(out, b"\n");
     }
+    put_cell(out, row.get(0))?;
+    put_more(out, row)?;
+    put(out, b"\n")
 }
 
 fn put_holder(out: &mut Vec<u8>, holder: Holder) -> Result<(), OutOfMemory>

@@ -1,8 +1,8 @@
 //! Blanks, words, numbers and signs of a statement's text. Each reader takes one from the front, and hands on the rest.
 ghost use Rattle.std.specs.Prelude.{◌≡◌, ◌<◌, ◌≤◌, length, bytes_eq, IfOk, IfSome, option_map};
 ghost use Rattle.std.specs.List.{prefix_len, list_any};
-ghost use Rattle.dk_script.specs.Reads.{Gives};
-ghost use Rattle.dk_script.specs.Words.{is_blank, is_digit, begins_word, goes_on_word, unblank, word_len, word_at, keyword_at, is_reserved, name_at, mark_at, value_in, number_at};
+ghost use Rattle.dk_script.specs.Readers.{Gives};
+ghost use Rattle.dk_script.specs.Words.{is_blank, is_digit, begins_word, continues_word, unblank, word_len, word_at, keyword_at, is_reserved, name_at, mark_at, value_in, number_at};
 
 use dk_types::{Bytes, List, is_name};
 use std::alloc::{AllocError, AllocFailed, Global};
@@ -28,8 +28,8 @@ impl From<AllocError> for ParseError {
     }
 }
 
-/// The words of the language. None of them is a name.
-pub const RESERVED: [&[u8]; 38] = [
+/// The words of the language, also those of statements that come later. None of them is a name.
+const RESERVED: [&[u8]; 38] = [
     b"and",
     b"asc",
     b"begin",
@@ -88,8 +88,8 @@ fn begins_word(byte: u8) -> bool
     (b'A' <= byte && byte <= b'Z') || (b'a' <= byte && byte <= b'z') || byte == b'_'
 }
 
-fn goes_on_word(byte: u8) -> bool
-    ensures { result ≡ goes_on_word byte }
+fn continues_word(byte: u8) -> bool
+    ensures { result ≡ continues_word byte }
 {
     begins_word(byte) || is_digit(byte)
 }
@@ -109,10 +109,10 @@ fn leading_digits(text: &[u8]) -> usize
 }
 
 fn leading_word_bytes(text: &[u8]) -> usize
-    ensures len { result ≡ prefix_len goes_on_word text.now }
+    ensures len { result ≡ prefix_len continues_word text.now }
     ensures within { result ≤ length text.now }
 {
-    text.iter().take_while(|b| goes_on_word(**b)).count()
+    text.iter().take_while(|b| continues_word(**b)).count()
 }
 
 /// The text from its first byte on that is no blank.
@@ -170,6 +170,7 @@ fn is_listed(words: &[&[u8]], word: &[u8]) -> bool
     words.iter().any(|listed| *listed == word)
 }
 
+#[tactic(auto, unfolding(crate::specs::Words::reserved_words))]
 fn is_reserved(word: &[u8]) -> bool
     ensures { result ≡ is_reserved word.now }
 {

@@ -1,6 +1,6 @@
--- The last line was told, or a front of it where the sink failed.
-use Rattle.dk_script.proofs.Closings.{closed}
+-- The last line was written, or a front of it where the sink failed.
+use Rattle.dk_script.proofs.LastLineLemmas.{closed}
 use Rattle.dk_script.proofs.serve.close.Goals as goal
 
-pub returns-clause-closed : goal.returns-clause-closed
-returns-clause-closed g c = closed c.tell_last.result _ _ _ _ _ c.tell_last.ensures.ok c.tell_last.ensures.err c.tell_last.ensures.cause
+pub returns-clause-last : goal.returns-clause-last
+returns-clause-last g c = closed g.K.Sink c.write_last_line.result _ _ _ c.write_last_line.ensures.ok c.write_last_line.ensures.err c.write_last_line.ensures.cause

@@ -1,6 +1,6 @@
 -- The value has passed its limit, and more digits make it no smaller.
 use Rattle.std.proofs.Common.{arith}
-use Rattle.dk_script.proofs.Values.{value_over_at}
+use Rattle.dk_script.proofs.NumberLemmas.{value_over_at}
 use Rattle.dk_script.proofs.words.value_of.Goals as goal
 
 pub returns-then-value-digit : goal.returns-then-value-digit
