@@ -174,6 +174,13 @@ impl Cells {
         true
     }
 
+    /// Whether the columns have the same type and the same values.
+    fn is_equal(&self, other: &Cells) -> bool
+        ensures { IsTrue result ↔ (self.now ≡ other.now) }
+    {
+        is_same_kind(self.kind(), other.kind()) && self.is_same(other)
+    }
+
     /// Keeps the first n values.
     pub fn truncate(&mut self, n: usize)
         ensures { self.new ≡ with_front n self.old }
@@ -189,6 +196,31 @@ impl TryCopy for Cells {
             kind: self.kind,
             storage,
         })
+    }
+}
+
+impl PartialEq for Cells {
+    ghost use Rattle.dk_columns.specs.Equal.{column_eq, column_per};
+
+    ghost eq = { column_eq };
+
+    ghost laws = { column_per };
+
+    fn eq(&self, other: &Cells) -> bool {
+        self.is_equal(other)
+    }
+}
+
+/// Whether two types are the same.
+pub(crate) fn is_same_kind(kind: ColType, other: ColType) -> bool
+    ensures { IsTrue result ↔ (kind ≡ other) }
+{
+    match (kind, other) {
+        (ColType::Bool, ColType::Bool)
+        | (ColType::Int, ColType::Int)
+        | (ColType::Big, ColType::Big)
+        | (ColType::Text, ColType::Text) => true,
+        _ => false,
     }
 }
 

@@ -105,6 +105,37 @@ impl Mask {
         Ok(())
     }
 
+    /// Adds the flags of another mask at the end.
+    #[tactic(auto, using(dk_rows::proofs::RowLemmas::taken_back, dk_rows::proofs::RowLemmas::put_next))]
+    pub fn append(&mut self, more: &Mask) -> Result<(), OutOfMemory>
+        ensures ok { OnOk result (self.new ≡ self.old ++ more.now) }
+        ensures err { OnErr result (self.new ≡ self.old) }
+    {
+        let before = self.len();
+        'flags: for i in 0..more.len() {
+            if let Err(lack) = self.push(more.get(i)) {
+                self.truncate(before);
+                return Err(lack);
+            }
+        }
+        Ok(())
+    }
+
+    /// Whether the same flags are set.
+    pub fn is_same(&self, other: &Mask) -> bool
+        ensures { IsTrue result ↔ (self.now ≡ other.now) }
+    {
+        if self.len() != other.len() {
+            return false;
+        }
+        'flags: for i in 0..other.len() {
+            if !is_same_flag(self.get(i), other.get(i)) {
+                return false;
+            }
+        }
+        true
+    }
+
     /// Keeps the first n flags.
     pub fn truncate(&mut self, n: usize)
         ensures { self.new ≡ take n self.old }
@@ -125,6 +156,25 @@ impl TryCopy for Mask {
             words,
         })
     }
+}
+
+impl PartialEq for Mask {
+    ghost use Rattle.dk_columns.specs.Equal.{flags_eq, flags_per};
+
+    ghost eq = { flags_eq };
+
+    ghost laws = { flags_per };
+
+    fn eq(&self, other: &Mask) -> bool {
+        self.is_same(other)
+    }
+}
+
+/// Whether both flags are set, or none.
+fn is_same_flag(set: bool, other: bool) -> bool
+    ensures { IsTrue result ↔ (set ≡ other) }
+{
+    set == other
 }
 
 /// Whether flag i is set.

@@ -10,12 +10,16 @@ use std::test::Fail;
 
 /// Numbers that look random, from a linear congruence.
 #[derive(Drop)]
-struct Draws {
+pub(crate) struct Draws {
     state: u64,
 }
 
 impl Draws {
-    fn below(&mut self, n: u64) -> u64
+    pub(crate) fn new(state: u64) -> Draws {
+        Draws { state }
+    }
+
+    pub(crate) fn below(&mut self, n: u64) -> u64
         requires { 0 < n }
         ensures { result < n }
     {
@@ -30,7 +34,7 @@ impl Draws {
 const LETTERS: &[u8] = b"abcdefgh";
 
 /// A value that a column of that type may have.
-fn draw_cell(draws: &mut Draws, kind: ColType) -> Cell<'static>
+pub(crate) fn draw_cell(draws: &mut Draws, kind: ColType) -> Cell<'static>
     ensures { IsOfKind kind (value_of result) }
 {
     if draws.below(4) == 0 {
@@ -96,7 +100,7 @@ fn sequence_agrees(alloc: Global, draws: &mut Draws, kind: ColType) -> Result<bo
 }
 
 fn disagreements(alloc: Global, sequences: u32, kind: ColType) -> Result<u32, OutOfMemory> {
-    let mut draws = Draws { state: 11 };
+    let mut draws = Draws::new(11);
     let mut failed = 0;
     for _ in 0..sequences {
         if !sequence_agrees(alloc, &mut draws, kind)? {

@@ -1,7 +1,8 @@
 //! What stands in the files, as values: the tree of tables and the pages of their groups, the records of the log, and
 //! a state that is to be written or was read.
 //!
-//! A `copy` equals what it copies. It stands on `dk_types`, and on the lists of `dk_values`.
+//! A `copy` equals what it copies. It stands on `dk_types`, on the rows of `dk_columns` that may be missing, and on the
+//! lists of `dk_values`.
 #![tactic(auto)]
 
 pub mod log;

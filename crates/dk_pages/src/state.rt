@@ -1,9 +1,7 @@
 //! All tables with their rows, as a checkpoint writes them and an opening reads them.
 use crate::page::{GroupRef, Placed};
-use dk_values::{Bytes, List, OutOfMemory, Row, Schema, TryCopy};
-
-/// The rows of a table by their ids. A deleted row keeps its place.
-pub type OptionRows = List<Option<Row>>;
+pub use dk_columns::OptionRows;
+use dk_values::{Bytes, List, OutOfMemory, Schema, TryCopy};
 
 /// Rows of a vector or a group by their ids, from the id `first` on. A row that isn't there keeps its place.
 #[derive(Debug, Drop, PartialEq)]

@@ -1,4 +1,8 @@
 //! That what stands in the files is copied whole and compared whole.
+ghost use Rattle.std.specs.Prelude.{[], ◌∷◌, IfOk};
+ghost use Rattle.dk_values.specs.declared.value.ColType.TheVariants.{Int};
+ghost use Rattle.dk_columns.specs.OptionTables.{FitsKinds};
+
 use crate::state::OptionRows;
 use crate::{
     GroupPage, GroupRef, GroupState, LogCommit, LogTable, Page, Placed, SegmentRef, TableEntry,
@@ -24,7 +28,9 @@ fn schema(alloc: Global) -> Result<Schema, Fail> {
     }
 }
 
-fn row(alloc: Global, number: i32) -> Result<Row, OutOfMemory> {
+fn row(alloc: Global, number: i32) -> Result<Row, OutOfMemory>
+    ensures { IfOk result (λ row. FitsKinds (Int ∷ []) row) }
+{
     Ok(List::from_vec(vec![in alloc; Value::Int(number)]?))
 }
 
@@ -35,7 +41,11 @@ fn one_row(alloc: Global, number: i32) -> Result<Rows, OutOfMemory> {
 }
 
 fn rows(alloc: Global, number: i32) -> Result<OptionRows, OutOfMemory> {
-    Ok(List::from_vec(vec![in alloc; None, Some(row(alloc, number)?)]?))
+    let row = row(alloc, number)?;
+    let mut rows = OptionRows::new(alloc, &[ColType::Int])?;
+    rows.push_missing()?;
+    rows.push(&row)?;
+    Ok(rows)
 }
 
 fn placed(alloc: Global, bytes: u32) -> Result<Placed, OutOfMemory> {
