@@ -43,6 +43,18 @@ Follows step old new = (c : List ℕ) → new c → (d : List ℕ) × old d × s
 abbrev pub Allows : (List ℕ → List ℕ → Type 0) → (List ℕ → Type 0) → (List ℕ → Type 0) → Type 0
 Allows step old new = (d c : List ℕ) → old d → step d c → new c
 
+-- a call may have happened or not: an image after it is one from before it, or one after a step
+pub record MayHappen (step : List ℕ → List ℕ → Type 0) (old new : List ℕ → Type 0) : Type 0 where
+  pub follows : Follows step old new
+  pub not_done : (c : List ℕ) → old c → new c
+
+-- the file beside one that a call is for reads as before, is as long, and a crash leaves the same of it
+pub record LeavesOther (file : FileId) (read read' : FileId → Option (List ℕ)) (len len' : FileId → ℕ)
+    (left left' : FileId → List ℕ → Type 0) : Type 0 where
+  pub content : read' (other file) ≡ read (other file)
+  pub extent : len' (other file) ≡ len (other file)
+  pub images : (c : List ℕ) → left' (other file) c ↔ left (other file) c
+
 -- a crash leaves of each file what it might have left before, and nothing else
 abbrev pub SameImages : (FileId → List ℕ → Type 0) → (FileId → List ℕ → Type 0) → Type 0
 SameImages old new = (f : FileId) (c : List ℕ) → new f c ↔ old f c

@@ -42,7 +42,7 @@ with_fault Passing faults = record faults { passing = next_count faults.passing 
 abbrev pub total : Faults → ℕ
 total faults = faults.listed + faults.refused + faults.ended + faults.passing
 
--- a write that would end past 2^62
+-- a write that would end past the greatest length
 abbrev pub PassesEnd : Request → Type 0
 PassesEnd (Read at len) = ⊥
 PassesEnd (Write at bytes) = MOST_BYTES < at + length bytes

@@ -81,7 +81,10 @@ MayLeaveAt h k file c = MayLeaveAfter file (start_of h file) (start_of h file) (
 
 -- with one call more
 abbrev pub after_call : FileId → Request → Bool → History → History
-after_call file request done h = record h { calls = h.calls ++ call_at h.moment file request done ∷ []; moment = h.moment + 1 }
+after_call file request done h = record h {
+  calls = h.calls ++ call_at h.moment file request done ∷ [];
+  moment = h.moment + 1;
+}
 
 -- with a call more that left nothing in the list
 abbrev pub after_unlisted_call : History → History

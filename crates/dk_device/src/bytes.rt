@@ -6,7 +6,8 @@ use std::alloc::AllocError as OutOfMemory;
 
 fn put_over(target: &mut [u8], at: usize, bytes: &[u8])
     requires { at + length bytes.now ≤ length target.old }
-    ensures { target.new ≡ take at target.old ++ bytes.now ++ drop (at + length bytes.now) target.old }
+    ensures { target.new ≡ take at target.old ++ bytes.now ++ drop (at + length bytes.now)
+        target.old }
 {
     let (_, rest) = target.split_at_mut(at);
     let (place, _) = rest.split_at_mut(bytes.len());

@@ -11,6 +11,13 @@ use crate::file::MemoryFile;
 use crate::{FileId, MOST_BYTES};
 use std::alloc::AllocError as OutOfMemory;
 
+/// A call that is begun: which file it is for, and at which moment.
+#[derive(Clone, Copy)]
+pub(crate) struct Begun {
+    pub file: FileId,
+    pub moment: u64,
+}
+
 /// Does what a call asks for to its file.
 fn apply(target: &mut MemoryFile, request: &Request) -> Result<(), OutOfMemory>
     ensures start { target.new.start ≡ target.old.start }
@@ -58,19 +65,20 @@ fn attempt(target: &mut MemoryFile, failing: &[u64], now: u64, request: &Request
 pub(crate) fn attempt_at(
     main: &mut MemoryFile,
     wal: &mut MemoryFile,
-    file: FileId,
     failing: &[u64],
-    now: u64,
+    begun: Begun,
     request: &Request,
 ) -> Option<Fault>
     ensures main_start { main.new.start ≡ main.old.start }
     ensures wal_start { wal.new.start ≡ wal.old.start }
-    ensures main { main.new.bytes ≡ effect_on (is_none result) Main file request.now main.old.bytes }
-    ensures wal { wal.new.bytes ≡ effect_on (is_none result) Wal file request.now wal.old.bytes }
-    ensures shows { FaultShows failing.now now request.now result }
+    ensures main { main.new.bytes ≡
+        effect_on (is_none result) Main begun.file request.now main.old.bytes }
+    ensures wal { wal.new.bytes ≡
+        effect_on (is_none result) Wal begun.file request.now wal.old.bytes }
+    ensures shows { FaultShows failing.now begun.moment request.now result }
 {
-    match file {
-        FileId::Main => attempt(main, failing, now, request),
-        FileId::Wal => attempt(wal, failing, now, request),
+    match begun.file {
+        FileId::Main => attempt(main, failing, begun.moment, request),
+        FileId::Wal => attempt(wal, failing, begun.moment, request),
     }
 }

@@ -40,7 +40,7 @@ pub trait Disk {
     ghost use Rattle.dk_device.specs.declared.calls.Request.{Request};
     ghost use Rattle.dk_device.specs.declared.calls.Request.TheVariants.{Read, Write, Cut, Sync};
     ghost use Rattle.dk_fault.specs.Causes.{HasCause};
-    ghost use Rattle.dk_device.specs.Disk.{other, overlaid, TornWrite, TornCut, Follows, Allows, SameImages, SameFiles, Elapses, with_call, call_at};
+    ghost use Rattle.dk_device.specs.Disk.{other, overlaid, TornWrite, TornCut, MayHappen, Allows, LeavesOther, SameImages, SameFiles, Elapses, with_call, call_at};
 
     /// How many bytes a file has.
     ghost extent: { Self → FileId → ℕ };
@@ -76,12 +76,14 @@ pub trait Disk {
         ensures extent { SameFiles (extent self.old) (extent self.new) }
         ensures images { SameImages (may_leave self.old (time self.old))
             (may_leave self.new (time self.new)) }
-        ensures time { Elapses (time self.old) (time self.new) (may_leave self.old) (may_leave self.new) }
+        ensures time { Elapses (time self.old) (time self.new) (may_leave self.old)
+            (may_leave self.new) }
         ensures called { OnOk result (calls self.new ≡ with_call
             (call_at (time self.old) file (Read at (length out.old)) true) (calls self.old)) }
         ensures reason { reason self.old (Read at (length out.old)) (is_ok result) self.new }
         ensures tried { OnErr result ((calls self.new ≡ calls self.old)
-            ⊎ (calls self.new ≡ with_call (call_at (time self.old) file (Read at (length out.old)) false)
+            ⊎ (calls self.new ≡ with_call
+            (call_at (time self.old) file (Read at (length out.old)) false)
             (calls self.old))) }
         ensures ended { LAST_MOMENT ≤ time self.old → IsErr result }
         ensures cause { HasCause (faults self.old) (faults self.new) result };
@@ -94,57 +96,57 @@ pub trait Disk {
         ensures grown { OnOk result (extent self.new file ≡ max (extent self.old file)
             (at + length bytes.now)) }
         ensures no_shorter { extent self.old file ≤ extent self.new file }
-        ensures no_longer { extent self.new file ≤ max (extent self.old file) (at + length bytes.now) }
+        ensures no_longer { extent self.new file ≤ max (extent self.old file)
+            (at + length bytes.now) }
         ensures too_far { MOST_BYTES < at + length bytes.now → IsErr result
             × SameFiles (content self.old) (content self.new)
             × SameFiles (extent self.old) (extent self.new)
             × SameImages (may_leave self.old (time self.old)) (may_leave self.new (time self.new)) }
-        ensures crash { Follows (TornWrite at (length bytes.now) (extent self.old file))
+        ensures crash { MayHappen (TornWrite at (length bytes.now) (extent self.old file))
             (may_leave self.old (time self.old) file) (may_leave self.new (time self.new) file) }
         ensures torn { OnOk result (Allows (TornWrite at (length bytes.now) (extent self.old file))
             (may_leave self.old (time self.old) file) (may_leave self.new (time self.new) file)) }
-        ensures not_done { (c : List ℕ) → may_leave self.old (time self.old) file c →
-            may_leave self.new (time self.new) file c }
-        ensures other_content { content self.new (other file) ≡ content self.old (other file) }
-        ensures other_extent { extent self.new (other file) ≡ extent self.old (other file) }
-        ensures other_images { (c : List ℕ) → may_leave self.new (time self.new) (other file) c
-            ↔ may_leave self.old (time self.old) (other file) c }
-        ensures time { Elapses (time self.old) (time self.new) (may_leave self.old) (may_leave self.new) }
+        ensures other_file { LeavesOther file (content self.old) (content self.new)
+            (extent self.old) (extent self.new)
+            (may_leave self.old (time self.old)) (may_leave self.new (time self.new)) }
+        ensures time { Elapses (time self.old) (time self.new) (may_leave self.old)
+            (may_leave self.new) }
         ensures called { OnOk result (calls self.new ≡ with_call
             (call_at (time self.old) file (Write at bytes.now) true) (calls self.old)) }
         ensures reason { reason self.old (Write at bytes.now) (is_ok result) self.new }
         ensures tried { OnErr result ((calls self.new ≡ with_call
             (call_at (time self.old) file (Write at bytes.now) false) (calls self.old))
             ⊎ ((calls self.new ≡ calls self.old) × SameFiles (content self.old) (content self.new)
-            × SameImages (may_leave self.old (time self.old)) (may_leave self.new (time self.new)))) }
+            × SameImages (may_leave self.old (time self.old))
+            (may_leave self.new (time self.new)))) }
         ensures ended { LAST_MOMENT ≤ time self.old → IsErr result }
         ensures cause { HasCause (faults self.old) (faults self.new) result };
 
     /// Cuts a file to a length.
     fn cut(&mut self, file: FileId, len: u64) -> Result<(), Failed>
         requires { len ≤ extent self.old file }
-        ensures cut { OnOk result (content self.new file ≡ option_map (take len) (content self.old file)) }
+        ensures cut { OnOk result
+            (content self.new file ≡ option_map (take len) (content self.old file)) }
         ensures shrunk { OnOk result (extent self.new file ≡ len) }
         ensures no_shorter { len ≤ extent self.new file }
         ensures no_longer { extent self.new file ≤ extent self.old file }
-        ensures crash { Follows (TornCut len) (may_leave self.old (time self.old) file)
+        ensures crash { MayHappen (TornCut len) (may_leave self.old (time self.old) file)
             (may_leave self.new (time self.new) file) }
         ensures torn { OnOk result (Allows (TornCut len) (may_leave self.old (time self.old) file)
             (may_leave self.new (time self.new) file)) }
-        ensures not_done { (c : List ℕ) → may_leave self.old (time self.old) file c →
-            may_leave self.new (time self.new) file c }
-        ensures other_content { content self.new (other file) ≡ content self.old (other file) }
-        ensures other_extent { extent self.new (other file) ≡ extent self.old (other file) }
-        ensures other_images { (c : List ℕ) → may_leave self.new (time self.new) (other file) c
-            ↔ may_leave self.old (time self.old) (other file) c }
-        ensures time { Elapses (time self.old) (time self.new) (may_leave self.old) (may_leave self.new) }
+        ensures other_file { LeavesOther file (content self.old) (content self.new)
+            (extent self.old) (extent self.new)
+            (may_leave self.old (time self.old)) (may_leave self.new (time self.new)) }
+        ensures time { Elapses (time self.old) (time self.new) (may_leave self.old)
+            (may_leave self.new) }
         ensures called { OnOk result (calls self.new ≡ with_call
             (call_at (time self.old) file (Cut len) true) (calls self.old)) }
         ensures reason { reason self.old (Cut len) (is_ok result) self.new }
         ensures tried { OnErr result ((calls self.new ≡ with_call
             (call_at (time self.old) file (Cut len) false) (calls self.old))
             ⊎ ((calls self.new ≡ calls self.old) × SameFiles (content self.old) (content self.new)
-            × SameImages (may_leave self.old (time self.old)) (may_leave self.new (time self.new)))) }
+            × SameImages (may_leave self.old (time self.old))
+            (may_leave self.new (time self.new)))) }
         ensures ended { LAST_MOMENT ≤ time self.old → IsErr result }
         ensures cause { HasCause (faults self.old) (faults self.new) result };
 
@@ -158,13 +160,17 @@ pub trait Disk {
             may_leave self.old (time self.old) file c }
         ensures other_images { (c : List ℕ) → may_leave self.new (time self.new) (other file) c
             ↔ may_leave self.old (time self.old) (other file) c }
-        ensures time { Elapses (time self.old) (time self.new) (may_leave self.old) (may_leave self.new) }
-        ensures called { OnOk result (calls self.new ≡ with_call (call_at (time self.old) file Sync true)
+        ensures time { Elapses (time self.old) (time self.new) (may_leave self.old)
+            (may_leave self.new) }
+        ensures called { OnOk result
+            (calls self.new ≡ with_call (call_at (time self.old) file Sync true)
             (calls self.old)) }
         ensures reason { reason self.old Sync (is_ok result) self.new }
-        ensures tried { OnErr result ((calls self.new ≡ with_call (call_at (time self.old) file Sync false)
+        ensures tried { OnErr result
+            ((calls self.new ≡ with_call (call_at (time self.old) file Sync false)
             (calls self.old)) ⊎ ((calls self.new ≡ calls self.old)
-            × SameImages (may_leave self.old (time self.old)) (may_leave self.new (time self.new)))) }
+            × SameImages (may_leave self.old (time self.old))
+            (may_leave self.new (time self.new)))) }
         ensures ended { LAST_MOMENT ≤ time self.old → IsErr result }
         ensures cause { HasCause (faults self.old) (faults self.new) result };
 

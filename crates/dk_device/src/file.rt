@@ -4,8 +4,7 @@ ghost use Rattle.std.specs.List.{filter};
 
 use crate::bytes::overwrite;
 use crate::calls::DiskCall;
-use crate::image::replay;
-use crate::{Choice, FileId};
+use crate::image::{Crash, replay};
 use std::alloc::AllocError as OutOfMemory;
 use std::marker::Model;
 
@@ -48,18 +47,13 @@ impl MemoryFile {
     }
 
     /// What a crash leaves behind the calls before a moment.
-    pub(crate) fn image(
-        &self,
-        calls: &[DiskCall],
-        file: FileId,
-        moment: u64,
-        choice: Choice,
-    ) -> Result<Vec<u8>, OutOfMemory>
-        ensures { IfOk result (λ image. image.items ≡ image_after choice file self.now.start self.now.start
-            (filter (λ call. nat_lt call.moment moment) calls.now)) }
+    pub(crate) fn image(&self, calls: &[DiskCall], crash: Crash) -> Result<Vec<u8>, OutOfMemory>
+        ensures { IfOk result (λ image. image.items ≡
+            image_after crash.choice crash.file self.now.start self.now.start
+            (filter (λ call. nat_lt call.moment crash.moment) calls.now)) }
     {
         let alloc = *self.start.allocator();
-        replay(alloc, self.start.as_slice(), calls, file, moment, choice)
+        replay(alloc, self.start.as_slice(), calls, crash)
     }
 
     /// The bytes, to be put back by `put`.

@@ -60,7 +60,8 @@ impl HostFiles {
 
     fn write(&mut self, file: FileId, at: u64, bytes: &[u8]) -> bool
         requires { at + length bytes.now ≤ MOST_BYTES }
-        ensures no_shorter { of_file file self.old.main.len self.old.wal.len ≤ of_file file self.new.main.len self.new.wal.len }
+        ensures no_shorter { of_file file self.old.main.len self.old.wal.len
+            ≤ of_file file self.new.main.len self.new.wal.len }
         ensures no_longer { of_file file self.new.main.len self.new.wal.len ≤ max
             (of_file file self.old.main.len self.old.wal.len) (at + length bytes.now) }
         ensures grown { result ≡ true →
@@ -78,7 +79,8 @@ impl HostFiles {
     fn cut(&mut self, file: FileId, len: u64) -> bool
         requires { len ≤ of_file file self.old.main.len self.old.wal.len }
         ensures no_shorter { len ≤ of_file file self.new.main.len self.new.wal.len }
-        ensures no_longer { of_file file self.new.main.len self.new.wal.len ≤ of_file file self.old.main.len self.old.wal.len }
+        ensures no_longer { of_file file self.new.main.len self.new.wal.len
+            ≤ of_file file self.old.main.len self.old.wal.len }
         ensures cut { result ≡ true → of_file file self.new.main.len self.new.wal.len ≡ len }
         ensures other { of_file (other file) self.new.main.len self.new.wal.len ≡ of_file
             (other file) self.old.main.len self.old.wal.len }
@@ -142,7 +144,8 @@ impl HostDisk {
 
     fn write(&mut self, file: FileId, at: u64, bytes: &[u8]) -> bool
         requires { at + length bytes.now ≤ MOST_BYTES }
-        ensures no_shorter { of_file file self.old.main self.old.wal ≤ of_file file self.new.main self.new.wal }
+        ensures no_shorter { of_file file self.old.main self.old.wal
+            ≤ of_file file self.new.main self.new.wal }
         ensures no_longer { of_file file self.new.main self.new.wal ≤ max
             (of_file file self.old.main self.old.wal) (at + length bytes.now) }
         ensures grown { result ≡ true →
@@ -162,7 +165,8 @@ impl HostDisk {
     fn cut_file(&mut self, file: FileId, len: u64) -> bool
         requires { len ≤ of_file file self.old.main self.old.wal }
         ensures no_shorter { len ≤ of_file file self.new.main self.new.wal }
-        ensures no_longer { of_file file self.new.main self.new.wal ≤ of_file file self.old.main self.old.wal }
+        ensures no_longer { of_file file self.new.main self.new.wal
+            ≤ of_file file self.old.main self.old.wal }
         ensures cut { result ≡ true → of_file file self.new.main self.new.wal ≡ len }
         ensures other { of_file (other file) self.new.main self.new.wal ≡ of_file
             (other file) self.old.main self.old.wal }

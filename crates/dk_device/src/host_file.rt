@@ -1,5 +1,6 @@
 //! A real file, with the length that it has.
-ghost use Rattle.std.specs.Prelude.{◌≡◌, ◌≤◌, ◌+◌, ◌<◌, ◌^◌, length, max, IsTrue, true, false};
+ghost use Rattle.std.specs.Prelude.{◌≡◌, ◌≤◌, ◌+◌, ◌<◌, length, max, IsTrue, true, false};
+ghost use Rattle.dk_device.specs.declared.device.TheConstants.{MOST_BYTES};
 
 use std::fs;
 use std::os::unix::fs::FileExt;
@@ -29,7 +30,7 @@ impl HostFile {
 
     /// Writes all the bytes. A write that fails in the middle leaves the length that the file then has.
     pub(crate) fn write(&mut self, at: u64, bytes: &[u8]) -> bool
-        requires { at + length bytes.now ≤ 2 ^ 62 }
+        requires { at + length bytes.now ≤ MOST_BYTES }
         ensures no_shorter { self.old.len ≤ self.new.len }
         ensures no_longer { self.new.len ≤ max self.old.len (at + length bytes.now) }
         ensures grown { result ≡ true → self.new.len ≡ max self.old.len (at + length bytes.now) }

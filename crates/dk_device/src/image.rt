@@ -21,6 +21,14 @@ pub enum Choice {
     Torn { byte: u8 },
 }
 
+/// A crash: of which file, just before the call of which number, and what it leaves.
+#[derive(Clone, Copy)]
+pub(crate) struct Crash {
+    pub file: FileId,
+    pub moment: u64,
+    pub choice: Choice,
+}
+
 /// A file as it reads, and as a crash leaves it.
 #[derive(Drop)]
 struct Replayed {
@@ -38,7 +46,8 @@ impl Replayed {
     ) -> Result<(), OutOfMemory>
         ensures bytes { OnOk result (self.new.bytes.items ≡ effect
             (Write at bytes.now) self.old.bytes.items) }
-        ensures image { OnOk result (self.new.image.items ≡ written_by choice at bytes.now self.old.image.items) }
+        ensures image { OnOk result (self.new.image.items ≡
+            written_by choice at bytes.now self.old.image.items) }
     {
         overwrite(&mut self.bytes, at, bytes)?;
         match choice {
@@ -64,8 +73,10 @@ impl Replayed {
 
     /// Does what a call asks for.
     fn apply(&mut self, alloc: Global, choice: Choice, request: &Request) -> Result<(), OutOfMemory>
-        ensures bytes { OnOk result (self.new.bytes.items ≡ effect request.now self.old.bytes.items) }
-        ensures image { OnOk result (self.new.image.items ≡ image_by choice request.now self.old.bytes.items self.old.image.items) }
+        ensures bytes { OnOk result
+            (self.new.bytes.items ≡ effect request.now self.old.bytes.items) }
+        ensures image { OnOk result (self.new.image.items ≡
+            image_by choice request.now self.old.bytes.items self.old.image.items) }
     {
         match request {
             Request::Read { .. } => {}
@@ -86,9 +97,12 @@ impl Replayed {
         file: FileId,
         call: &DiskCall,
     ) -> Result<(), OutOfMemory>
-        ensures bytes { OnOk result (self.new.bytes.items ≡ effect_on call.now.done file call.now.file call.now.request self.old.bytes.items) }
+        ensures bytes { OnOk result (self.new.bytes.items ≡
+            effect_on call.now.done file call.now.file call.now.request self.old.bytes.items) }
         ensures image { OnOk result (self.new.image.items ≡ if_same file call.now.file
-            (image_if call.now.done choice call.now.request self.old.bytes.items self.old.image.items) self.old.image.items) }
+            (image_if call.now.done choice call.now.request self.old.bytes.items
+            self.old.image.items)
+            self.old.image.items) }
     {
         if call.done && call.file == file {
             self.apply(alloc, choice, &call.request)?;
@@ -102,20 +116,19 @@ pub(crate) fn replay(
     alloc: Global,
     start: &[u8],
     calls: &[DiskCall],
-    file: FileId,
-    moment: u64,
-    choice: Choice,
+    crash: Crash,
 ) -> Result<Vec<u8>, OutOfMemory>
-    ensures { IfOk result (λ image. image.items ≡ image_after choice file start.now start.now
-        (filter (λ call. nat_lt call.moment moment) calls.now)) }
+    ensures { IfOk result
+        (λ image. image.items ≡ image_after crash.choice crash.file start.now start.now
+        (filter (λ call. nat_lt call.moment crash.moment) calls.now)) }
 {
     let mut replayed = Replayed {
         bytes: start.to_vec(alloc)?,
         image: start.to_vec(alloc)?,
     };
     'calls: for call in calls {
-        if call.moment < moment {
-            replayed.follow(alloc, choice, file, call)?;
+        if call.moment < crash.moment {
+            replayed.follow(alloc, crash.choice, crash.file, call)?;
         }
     }
     Ok(replayed.image)

@@ -3,9 +3,10 @@ ghost use Rattle.std.specs.Prelude.{◌≡◌, ◌⊎◌, ◌≤◌, ◌<◌, �
 ghost use Rattle.std.specs.List.{list_any};
 
 use crate::calls::{DiskCall, Request, Written};
-use crate::change::attempt_at;
+use crate::change::{Begun, attempt_at};
 use crate::faults::{Fault, Faults};
 use crate::file::MemoryFile;
+use crate::image::Crash;
 use crate::{Choice, Disk, FileId, LAST_MOMENT};
 use dk_fault::Failed;
 use std::alloc::{AllocError as OutOfMemory, Global};
@@ -29,7 +30,12 @@ impl Model for MemoryDisk {
     ghost Value = { MemoryState };
 
     ghost view = { λ d. record {
-      history = record { main = d.main.start; wal = d.wal.start; calls = d.calls.items; moment = d.moment };
+      history = record {
+        main = d.main.start;
+        wal = d.wal.start;
+        calls = d.calls.items;
+        moment = d.moment;
+      };
       failing = d.failing.items;
       faults = d.faults;
     } };
@@ -42,9 +48,7 @@ fn note(calls: &mut Vec<DiskCall>, call: DiskCall)
     requires { vec_len calls.old < vec_capacity calls.old }
     ensures { calls.new.items ≡ calls.old.items ++ call ∷ [] }
 {
-    if calls.push(call).is_err() {
-        unreachable!()
-    }
+    calls.push_reserved(call);
 }
 
 impl MemoryDisk {
@@ -60,7 +64,12 @@ impl MemoryDisk {
 
     /// A disk that holds these bytes, and fails at the listed moments.
     pub fn new(main: Vec<u8>, wal: Vec<u8>, failing: Vec<u64>) -> MemoryDisk
-        ensures history { result.history ≡ record { main = main.items; wal = wal.items; calls = []; moment = 0 } }
+        ensures history { result.history ≡ record {
+          main = main.items;
+          wal = wal.items;
+          calls = [];
+          moment = 0;
+        } }
         ensures failing { result.failing ≡ failing.items }
         ensures faults { total result.faults ≡ 0 }
         ensures synced { (f : FileId) → IsSynced ⟦<MemoryDisk as Disk>⟧ result f }
@@ -93,8 +102,18 @@ impl MemoryDisk {
         ensures wal { IfOk result (λ image. MayLeaveAt self.now.history moment Wal image.1.items) }
     {
         let calls = self.calls.as_slice();
-        let main = self.main.image(calls, FileId::Main, moment, choice)?;
-        let wal = self.wal.image(calls, FileId::Wal, moment, choice)?;
+        let of_main = Crash {
+            file: FileId::Main,
+            moment,
+            choice,
+        };
+        let of_wal = Crash {
+            file: FileId::Wal,
+            moment,
+            choice,
+        };
+        let main = self.main.image(calls, of_main)?;
+        let wal = self.wal.image(calls, of_wal)?;
         Ok((main, wal))
     }
 
@@ -130,9 +149,8 @@ impl MemoryDisk {
         let fault = attempt_at(
             &mut self.main,
             &mut self.wal,
-            file,
             self.failing.as_slice(),
-            now,
+            Begun { file, moment: now },
             &request,
         );
         note(
@@ -243,6 +261,7 @@ impl Disk for MemoryDisk {
 #[cfg(test)]
 mod tests {
     use super::*;
+    use crate::MOST_BYTES;
     use std::test::Fail;
 
     fn empty(alloc: Global, moment: u64) -> MemoryDisk {
@@ -257,7 +276,7 @@ mod tests {
     }
 
     fn write_far(disk: &mut MemoryDisk) -> Result<(), Failed> {
-        disk.write(FileId::Main, 1 << 62, b"a")
+        disk.write(FileId::Main, MOST_BYTES, b"a")
     }
 
     #[test]

@@ -36,7 +36,8 @@ pub fn write_synced<D: Disk>(
 /// Cuts a file and syncs it.
 pub fn cut_synced<D: Disk>(disk: &mut D, file: FileId, len: u64) -> Result<(), Failed>
     requires { len ≤ D.extent disk.old file }
-    ensures cut { OnOk result (D.content disk.new file ≡ option_map (take len) (D.content disk.old file)) }
+    ensures cut { OnOk result
+        (D.content disk.new file ≡ option_map (take len) (D.content disk.old file)) }
     ensures shrunk { OnOk result (D.extent disk.new file ≡ len) }
     ensures extent { IsWithin len (D.extent disk.old file) (D.extent disk.new file) }
     ensures synced { OnOk result (IsSynced D.Disk disk.new file) }

@@ -3,3 +3,4 @@ pub mod ReaderLemmas
 pub mod WindowLemmas
 pub mod WriteLemmas
 pub mod PassLemmas
+pub mod CallLemmas

@@ -1,7 +1,8 @@
-pub mod LineMoves
 pub mod Lines
-pub mod LinesLeft
-pub mod Memory
 pub mod ReaderState
+pub mod LinesLeft
+pub mod LineMoves
+pub mod LinesGiven
+pub mod NextLine
+pub mod Memory
 pub mod Sinks
-pub mod Passing

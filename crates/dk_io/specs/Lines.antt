@@ -7,10 +7,12 @@ abbrev pub last_line : List ℕ → List (List ℕ)
 last_line [] = []
 last_line (a ∷ begun) = strip_carriage_return (a ∷ begun) ∷ []
 
--- the lines of a text whose first line has begun: each ends with a line feed or with the text, and loses one carriage return at its end
+-- the lines of a text whose first line has begun: each ends with a line feed or with the text, and loses one carriage
+-- return at its end
 abbrev pub lines_after : List ℕ → List ℕ → List (List ℕ)
 lines_after begun [] = last_line begun
-lines_after begun (b ∷ text) = if b == 10 then strip_carriage_return begun ∷ lines_after [] text else lines_after (begun ++ b ∷ []) text
+lines_after begun (b ∷ text) = if b == 10 then strip_carriage_return begun ∷ lines_after [] text else lines_after
+    (begun ++ b ∷ []) text
 
 -- the lines of a text
 abbrev pub lines_of : List ℕ → List (List ℕ)

@@ -1,9 +1,7 @@
 -- What contracts see of a line reader, and of its answers.
-use Rattle.std.specs.Prelude.{◌≡◌, ℕ, ◌+◌, ◌<◌, List, [], ◌∷◌, ◌++◌, length, Option, None, Some, Result, Ok, Err, ⊤}
+use Rattle.std.specs.Prelude.{◌≡◌, ℕ, ◌+◌, ◌<◌, List, [], ◌∷◌, ◌++◌, length, Option, None, Some, ⊤}
 use Rattle.std.specs.Option.{option_map}
 use Rattle.dk_io.specs.Lines.{contents_after}
-use Rattle.dk_io.specs.declared.lines.LineError.{LineError}
-use Rattle.dk_io.specs.declared.lines.LineError.TheVariants.{TooLong, TooMuch, Fault, OutOfMemory}
 use Rattle.dk_io.specs.declared.lines.Next.{Next}
 use Rattle.dk_io.specs.declared.lines.Next.TheVariants.{End, Passed, Line}
 use Rattle.dk_io.specs.ReaderState.{ReaderState}
@@ -49,11 +47,3 @@ abbrev pub Counts : ℕ → Option (List ℕ) → ℕ → Option (List ℕ) → 
 Counts before None now new = ⊤
 Counts before (Some xs) now None = ⊥
 Counts before (Some xs) now (Some ys) = before + length xs ≡ now + length ys
-
--- a fact for a line past the limit, by its number
-abbrev pub OnTooLong : {T : Type 0} → Result T LineError → (ℕ → Type 0) → Type 0
-OnTooLong (Ok v) P = ⊤
-OnTooLong (Err (TooLong line)) P = P line
-OnTooLong (Err TooMuch) P = ⊤
-OnTooLong (Err Fault) P = ⊤
-OnTooLong (Err OutOfMemory) P = ⊤

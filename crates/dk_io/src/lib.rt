@@ -1,12 +1,13 @@
 //! The outside of the store: where bytes come from, where they go, and where a run may be held up.
 //!
-//! A [`Source`] and a [`Sink`] say what they have left and what they took, where they tell it, and count their faults, so
-//! that a caller's contract can say that a fault is answered only where one was met. The two in memory fail at the
+//! A [`Source`] and a [`Sink`] say what they have left and what they took, where they tell it, and count their faults,
+//! so that a caller's contract can say that a fault is answered only where one was met. The two in memory fail at the
 //! calls that a test lists; the two over the runtime tell nothing of content. [`write_all`] and the line reader of
-//! [`lines`] stand on the traits alone. The crate stands on std, `memchr` and `thiserror`.
+//! [`lines`] stand on the traits alone. The crate stands on `dk_fault`, std, `memchr` and `thiserror`.
 #![tactic(auto)]
 
 mod begun_line;
+mod call_plan;
 mod host;
 pub mod lines;
 mod memory;

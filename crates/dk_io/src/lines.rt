@@ -1,12 +1,13 @@
 //! The lines of a source, one after another, whatever pieces it gives them in.
-ghost use Rattle.std.specs.Prelude.{◌≡◌, ℕ, ◌+◌, ◌^◌, ◌<◌, ◌≤◌, ◌↔◌, false, true, Ok, [], Some, length, drop, slice_get, Contains, IfOk, OnOk, OnErr, IsErrOf, IsTrue};
-ghost use Rattle.std.specs.Io.KnownBytes.{Consumes, IsAtEnd};
+ghost use Rattle.std.specs.Prelude.{◌≡◌, ℕ, ◌+◌, ◌^◌, ◌<◌, ◌≤◌, ◌↔◌, false, true, Ok, [], Some, length, slice_get, Contains, IfOk, IfErr, OnOk, OnErr, IsErrOf};
+ghost use Rattle.std.specs.Io.KnownBytes.{IsAtEnd};
 ghost use Rattle.std.specs.Str.Lines.{strip_carriage_return};
-ghost use Rattle.dk_fault.specs.Causes.{Rose};
 ghost use Rattle.dk_io.specs.Lines.{is_too_long, line_content};
-ghost use Rattle.dk_io.specs.LinesLeft.{lines_left, answer_content, line_count, Pops, Stays, BeginsTooLong, Counts, OnTooLong};
-ghost use Rattle.dk_io.specs.LineMoves.{Moves, EndsLine, EndsText};
-ghost use Rattle.dk_io.specs.Passing.{lines_given, Passes};
+ghost use Rattle.dk_io.specs.LinesLeft.{answer_content, line_count};
+ghost use Rattle.dk_io.specs.LineMoves.{CountsTo, Fills, StopsFilling, Moves, StopsMoving, EndsLine, EndsText};
+ghost use Rattle.dk_io.specs.NextLine.{ReadsLine, KeepsLines, HasReason, TellsEnd, CountsOn};
+ghost use Rattle.dk_io.specs.LinesGiven.{lines_given};
+ghost use Rattle.dk_io.specs.ReaderState.{fresh_reader};
 
 use crate::begun_line::{end_line, find_end, is_passed, is_too_long, keep};
 use crate::pieces::Piece;
@@ -105,21 +106,12 @@ impl Model for LineReader {
 }
 
 impl LineReader {
-    /// A reader of lines of at most `limit` bytes, neither line feed nor dropped carriage return counted, in a text of at
-    /// most `total` bytes.
+    /// A reader of lines of at most `limit` bytes, neither line feed nor dropped carriage return counted, in a text of
+    /// at most `total` bytes.
     pub fn new(alloc: Global, limit: usize, total: u64) -> Result<LineReader, OutOfMemory>
         requires limit { 0 < limit }
         requires total { total + 1 < 2 ^ 64 }
-        ensures { IfOk result (λ reader. reader ≡ record {
-          begun = [];
-          held = [];
-          line = [];
-          number = 0;
-          taken = 0;
-          ended = false;
-          limit = limit;
-          total = total;
-        }) }
+        ensures { IfOk result (λ reader. reader ≡ fresh_reader limit total) }
     {
         Ok(LineReader {
             piece: Piece::new(alloc)?,
@@ -159,31 +151,21 @@ impl LineReader {
     /// Goes on to the next line, and says whether there is one, whether it is passed over, or whether the input ends.
     pub fn next_line<S: Source>(&mut self, source: &mut S) -> Result<Next, LineError>
         ensures line { IfOk result (λ next.
-            Pops (lines_left self.old (S.left source.old)) (answer_content next self.new.line) (lines_left self.new (S.left source.new))) }
-        ensures short { result ≡ Ok Next.Line → length self.new.line ≤ self.old.limit }
-        ensures counted { IfOk result (λ next. self.new.number ≡ self.old.number + line_count next) }
+            ReadsLine S.Source self.old self.new source.old source.new next) }
 
         // After an error no line is lost, and the next call tries again.
-        ensures kept { OnErr result (Stays (lines_left self.old (S.left source.old)) (lines_left self.new (S.left source.new))) }
-        ensures uncounted { OnErr result (self.new.number ≡ self.old.number) }
-        ensures long { OnTooLong result (λ line. (line ≡ self.old.number + 1)
-            × BeginsTooLong self.old.limit (lines_left self.old (S.left source.old))) }
+        ensures kept { OnErr result (KeepsLines S.Source self.old self.new source.old source.new) }
+        ensures reason { IfErr result (λ e.
+            HasReason S.Source self.old self.new source.old source.new e) }
         ensures much { IsErrOf result LineError.TooMuch ↔ (self.new.total < self.new.taken) }
-        ensures fault { IsErrOf result LineError.Fault → Rose (S.faults source.old) (S.faults source.new) }
-        ensures unheld { IsErrOf result LineError.Fault → self.new.held ≡ [] }
-        ensures later { S.faults source.old ≤ S.faults source.new }
 
         // Until the input ends, only line feeds end lines, whatever follows. At its end nothing is left.
-        ensures passes { self.new.ended ≡ false
-            → Passes self.old self.new (S.left source.old) (S.left source.new) (lines_given result self.new.line) }
-        ensures going { OnErr result (self.new.ended ≡ false) }
-        ensures ended { self.new.ended ≡ true → (self.new.begun ≡ []) × (self.new.held ≡ []) × IsAtEnd (S.left source.new) }
+        ensures end { TellsEnd S.Source self.old self.new source.old source.new
+            (lines_given result self.new.line) }
 
         // The source is asked only where no whole line is held, and what it gives is counted.
         ensures asks { Contains self.old.held 10 → source.new ≡ source.old }
-        ensures taken { Counts self.old.taken (S.left source.old) self.new.taken (S.left source.new) }
-        ensures limit { self.new.limit ≡ self.old.limit }
-        ensures total { self.new.total ≡ self.old.total }
+        ensures counts { CountsOn S.Source self.old self.new source.old source.new }
     {
         self.begin_call();
         if self.taken > self.total {
@@ -209,24 +191,14 @@ impl LineReader {
         requires fits { is_too_long self.old.limit self.old.begun ≡ false }
         requires going { self.old.ended ≡ false }
         ensures line { IfOk result (λ next.
-            Pops (lines_left self.old (S.left source.old)) (answer_content next self.new.line) (lines_left self.new (S.left source.new))) }
-        ensures short { result ≡ Ok Next.Line → length self.new.line ≤ self.old.limit }
-        ensures counted { IfOk result (λ next. self.new.number ≡ self.old.number + line_count next) }
-        ensures kept { OnErr result (Stays (lines_left self.old (S.left source.old)) (lines_left self.new (S.left source.new))) }
-        ensures uncounted { OnErr result (self.new.number ≡ self.old.number) }
-        ensures long { OnTooLong result (λ line. (line ≡ self.old.number + 1)
-            × BeginsTooLong self.old.limit (lines_left self.old (S.left source.old))) }
+            ReadsLine S.Source self.old self.new source.old source.new next) }
+        ensures kept { OnErr result (KeepsLines S.Source self.old self.new source.old source.new) }
+        ensures reason { IfErr result (λ e.
+            HasReason S.Source self.old self.new source.old source.new e) }
         ensures much { IsErrOf result LineError.TooMuch ↔ (self.new.total < self.new.taken) }
-        ensures fault { IsErrOf result LineError.Fault → Rose (S.faults source.old) (S.faults source.new) }
-        ensures unheld { IsErrOf result LineError.Fault → self.new.held ≡ [] }
-        ensures later { S.faults source.old ≤ S.faults source.new }
-        ensures passes { self.new.ended ≡ false
-            → Passes self.old self.new (S.left source.old) (S.left source.new) (lines_given result self.new.line) }
-        ensures going { OnErr result (self.new.ended ≡ false) }
-        ensures ended { self.new.ended ≡ true → (self.new.begun ≡ []) × (self.new.held ≡ []) × IsAtEnd (S.left source.new) }
-        ensures taken { Counts self.old.taken (S.left source.old) self.new.taken (S.left source.new) }
-        ensures limit { self.new.limit ≡ self.old.limit }
-        ensures total { self.new.total ≡ self.old.total }
+        ensures end { TellsEnd S.Source self.old self.new source.old source.new
+            (lines_given result self.new.line) }
+        ensures counts { CountsOn S.Source self.old self.new source.old source.new }
     {
         'pieces: loop {
             if !self.fill(source)? {
@@ -243,20 +215,14 @@ impl LineReader {
     fn fill<S: Source>(&mut self, source: &mut S) -> Result<bool, LineError>
         requires held { self.old.held ≡ [] }
         requires taken { self.old.taken ≤ self.old.total }
-        ensures bytes { Consumes (S.left source.old) (S.left source.new) self.new.held }
-        ensures taken { self.new.taken ≡ self.old.taken + length self.new.held }
+        ensures fills { Fills S.Source self.old self.new source.old source.new }
         ensures more { result ≡ Ok true → 0 < length self.new.held }
         ensures end { result ≡ Ok false → (self.new.held ≡ []) × IsAtEnd (S.left source.new) }
+        ensures reason { IfErr result (λ e.
+            StopsFilling S.Source self.new source.old source.new e) }
         ensures much { IsErrOf result LineError.TooMuch ↔ (self.new.total < self.new.taken) }
-        ensures fault { IsErrOf result LineError.Fault → Rose (S.faults source.old) (S.faults source.new) }
-        ensures unheld { IsErrOf result LineError.Fault → self.new.held ≡ [] }
-        ensures long { OnTooLong result (λ _. ⊥) }
-        ensures later { S.faults source.old ≤ S.faults source.new }
-        ensures begun { self.new.begun ≡ self.old.begun }
-        ensures number { self.new.number ≡ self.old.number }
-        ensures ended { self.new.ended ≡ self.old.ended }
-        ensures limit { self.new.limit ≡ self.old.limit }
-        ensures total { self.new.total ≡ self.old.total }
+        ensures counts { CountsTo self.old self.new
+            self.old.number (self.old.taken + length self.new.held) self.old.ended }
     {
         let most = (self.total - self.taken).max(1) as usize;
         let count = self.piece.refill(source, most)?;
@@ -267,28 +233,34 @@ impl LineReader {
         Ok(count > 0)
     }
 
-    // Whether a line ends in what is held. What is held up to there goes to the line that has begun.
-    fn take_held(&mut self) -> Result<bool, LineError>
+    // What is held up to a line feed goes to the line that has begun. Says whether there is one.
+    fn move_held(&mut self) -> Result<bool, LineError>
         ensures moved { Moves self.old self.new }
         ensures found { result ≡ Ok true → slice_get self.new.held 0 ≡ Some 10 }
-        ensures all { result ≡ Ok false → self.new.held ≡ [] }
-        ensures none { result ≡ Ok false → ¬ Contains self.old.held 10 }
-        ensures fits { OnOk result (is_too_long self.old.limit self.new.begun ≡ false) }
-        ensures long { OnTooLong result (λ line. (line ≡ self.old.number + 1) × (0 < self.old.limit)
-            × (is_too_long self.old.limit self.new.begun ≡ true)) }
-        ensures much { ¬ IsErrOf result LineError.TooMuch }
-        ensures fault { ¬ IsErrOf result LineError.Fault }
-        ensures number { self.new.number ≡ self.old.number }
-        ensures taken { self.new.taken ≡ self.old.taken }
-        ensures ended { self.new.ended ≡ self.old.ended }
-        ensures limit { self.new.limit ≡ self.old.limit }
-        ensures total { self.new.total ≡ self.old.total }
+        ensures none { result ≡ Ok false → (self.new.held ≡ []) × ¬ Contains self.old.held 10 }
+        ensures memory { IfErr result (λ e. e ≡ LineError.OutOfMemory) }
+        ensures counts { CountsTo self.old self.new
+            self.old.number self.old.taken self.old.ended }
     {
         let held = self.piece.held();
         let (count, found) = find_end(held);
         let (part, _) = held.split_at(count);
         keep(&mut self.begun, part)?;
         self.piece.pass(count);
+        Ok(found)
+    }
+
+    // Whether a line ends in what is held, which goes to the line that has begun, as far as the limit allows.
+    fn take_held(&mut self) -> Result<bool, LineError>
+        ensures moved { Moves self.old self.new }
+        ensures found { result ≡ Ok true → slice_get self.new.held 0 ≡ Some 10 }
+        ensures none { result ≡ Ok false → (self.new.held ≡ []) × ¬ Contains self.old.held 10 }
+        ensures fits { OnOk result (is_too_long self.old.limit self.new.begun ≡ false) }
+        ensures reason { IfErr result (λ e. StopsMoving self.old self.new e) }
+        ensures counts { CountsTo self.old self.new
+            self.old.number self.old.taken self.old.ended }
+    {
+        let found = self.move_held()?;
         if is_too_long(self.begun.as_slice(), self.limit) {
             return Err(LineError::TooLong {
                 line: self.number + 1,
@@ -303,11 +275,8 @@ impl LineReader {
         requires fits { is_too_long self.old.limit self.old.begun ≡ false }
         ensures line { EndsLine self.old self.new result }
         ensures short { result ≡ Next.Line → length self.new.line ≤ self.old.limit }
-        ensures number { self.new.number ≡ self.old.number + line_count result }
-        ensures taken { self.new.taken ≡ self.old.taken }
-        ensures ended { self.new.ended ≡ self.old.ended }
-        ensures limit { self.new.limit ≡ self.old.limit }
-        ensures total { self.new.total ≡ self.old.total }
+        ensures counts { CountsTo self.old self.new
+            (self.old.number + line_count result) self.old.taken self.old.ended }
     {
         self.piece.pass(1);
         self.end_begun()
@@ -319,13 +288,9 @@ impl LineReader {
         requires fits { is_too_long self.old.limit self.old.begun ≡ false }
         ensures line { EndsText self.old self.new result }
         ensures short { result ≡ Next.Line → length self.new.line ≤ self.old.limit }
-        ensures number { self.new.number ≡ self.old.number + line_count result }
-        ensures taken { self.new.taken ≡ self.old.taken }
-        ensures ended { self.new.ended ≡ true }
-        ensures begun { self.new.begun ≡ [] }
-        ensures held { self.new.held ≡ [] }
-        ensures limit { self.new.limit ≡ self.old.limit }
-        ensures total { self.new.total ≡ self.old.total }
+        ensures empty { (self.new.begun ≡ []) × (self.new.held ≡ []) }
+        ensures counts { CountsTo self.old self.new
+            (self.old.number + line_count result) self.old.taken true }
     {
         self.ended = true;
         if self.begun.is_empty() {
@@ -338,15 +303,13 @@ impl LineReader {
     fn end_begun(&mut self) -> Next
         requires room { self.old.number + length self.old.held < self.old.taken }
         requires fits { is_too_long self.old.limit self.old.begun ≡ false }
-        ensures content { answer_content result self.new.line ≡ Some (line_content (strip_carriage_return self.old.begun)) }
+        ensures content { answer_content result self.new.line
+            ≡ Some (line_content (strip_carriage_return self.old.begun)) }
         ensures short { result ≡ Next.Line → length self.new.line ≤ self.old.limit }
         ensures begun { self.new.begun ≡ [] }
         ensures held { self.new.held ≡ self.old.held }
-        ensures number { self.new.number ≡ self.old.number + line_count result }
-        ensures taken { self.new.taken ≡ self.old.taken }
-        ensures ended { self.new.ended ≡ self.old.ended }
-        ensures limit { self.new.limit ≡ self.old.limit }
-        ensures total { self.new.total ≡ self.old.total }
+        ensures counts { CountsTo self.old self.new
+            (self.old.number + line_count result) self.old.taken self.old.ended }
     {
         end_line(&mut self.begun, &mut self.line);
         self.number += 1;

@@ -1,10 +1,11 @@
 //! A source and a sink in memory, which fail at listed calls.
-ghost use Rattle.std.specs.Prelude.{◌≡◌, ℕ, ◌<◌, List, [], Some, length, min, IsErr, is_err, IfOk, Contains, ◌↔◌, if◌then◌else◌, take, drop, vec_len};
+ghost use Rattle.std.specs.Prelude.{◌≡◌, ℕ, ◌<◌, List, [], Some, length, min, IsErr, is_err, IfOk, Contains, ◌↔◌, take, drop, vec_len};
 ghost use Rattle.std.specs.Io.{ReadsAtMost, WritesAtMost};
 ghost use Rattle.std.specs.Io.KnownBytes.{ReadConsumes, WriteAppends};
 ghost use Rattle.dk_fault.specs.Causes.{HasCause};
-ghost use Rattle.dk_fault.specs.Counts.{next_count};
+ghost use Rattle.dk_io.specs.Memory.{FailsAsListed, after_call, fresh_plan};
 
+use crate::call_plan::CallPlan;
 use crate::streams::{Sink, Source};
 use dk_fault::{Failed, next_count};
 use std::marker::Model;
@@ -15,10 +16,7 @@ use std::marker::Model;
 pub struct MemorySource {
     bytes: Vec<u8>,
     at: usize,
-    failing: Vec<u64>,
-    piece: usize,
-    calls: u64,
-    faults: u64,
+    plan: CallPlan,
 }
 
 impl Model for MemorySource {
@@ -27,15 +25,9 @@ impl Model for MemorySource {
 
     ghost Value = { Feed };
 
-    ghost view = { λ s. record {
-      left = drop s.at s.bytes.items;
-      failing = s.failing.items;
-      piece = s.piece;
-      calls = s.calls;
-      faults = s.faults;
-    } };
+    ghost view = { λ s. record { left = drop s.at s.bytes.items; plan = s.plan } };
 
-    ghost invariant = { λ s. (s.at ≤ vec_len s.bytes) × (0 < s.piece) };
+    ghost invariant = { λ s. (s.at ≤ vec_len s.bytes) × (0 < s.plan.piece) };
 }
 
 impl MemorySource {
@@ -44,10 +36,7 @@ impl MemorySource {
         requires { 0 < piece }
         ensures exact { result ≡ record {
           left = bytes.items;
-          failing = failing.items;
-          piece = piece;
-          calls = 0;
-          faults = 0;
+          plan = fresh_plan failing.items piece;
         } }
         ensures left { ⟦<MemorySource as Source>⟧.left result ≡ Some bytes.items }
         ensures faults { ⟦<MemorySource as Source>⟧.faults result ≡ 0 }
@@ -55,10 +44,7 @@ impl MemorySource {
         MemorySource {
             bytes,
             at: 0,
-            failing,
-            piece,
-            calls: 0,
-            faults: 0,
+            plan: CallPlan::new(failing, piece),
         }
     }
 }
@@ -76,28 +62,24 @@ fn copy_front(from: &[u8], most: usize, to: &mut [u8]) -> usize
 impl Source for MemorySource {
     ghost left = { λ s. Some s.left };
 
-    ghost faults = { λ s. s.faults };
+    ghost faults = { λ s. s.plan.faults };
 
     fn read(&mut self, buf: &mut [u8]) -> Result<usize, Failed>
         requires { 0 < length buf.old }
         ensures bound { ReadsAtMost result buf.new }
         ensures bytes { ReadConsumes (Some self.old.left) (Some self.new.left) result buf.new }
-        ensures cause { HasCause self.old.faults self.new.faults result }
+        ensures cause { HasCause self.old.plan.faults self.new.plan.faults result }
 
-        ensures listed { IsErr result ↔ Contains self.old.failing self.old.calls }
-        ensures amount { IfOk result (λ n. n ≡ min (min (length self.old.left) (length buf.old)) self.old.piece) }
-        ensures calls { self.new.calls ≡ next_count self.old.calls }
-        ensures faults { self.new.faults ≡ (if is_err result then next_count self.old.faults else self.old.faults) }
-        ensures failing { self.new.failing ≡ self.old.failing }
-        ensures piece { self.new.piece ≡ self.old.piece }
+        ensures listed { IsErr result ↔ Contains self.old.plan.failing self.old.plan.calls }
+        ensures amount { IfOk result (λ n.
+            n ≡ min (min (length self.old.left) (length buf.old)) self.old.plan.piece) }
+        ensures counted { self.new.plan ≡ after_call self.old.plan (is_err result) }
     {
-        let call = self.calls;
-        self.calls = next_count(call);
-        if self.failing.contains(&call) {
-            self.faults = next_count(self.faults);
+        let most = self.plan.piece();
+        if self.plan.begin_call() {
             return Err(Failed);
         }
-        let count = copy_front(&self.bytes[self.at..], self.piece, buf);
+        let count = copy_front(&self.bytes[self.at..], most, buf);
         self.at += count;
         Ok(count)
     }
@@ -108,10 +90,7 @@ impl Source for MemorySource {
 #[derive(Debug, Drop)]
 pub struct MemorySink {
     bytes: Vec<u8>,
-    failing: Vec<u64>,
-    piece: usize,
-    calls: u64,
-    faults: u64,
+    plan: CallPlan,
     refused: u64,
 }
 
@@ -121,16 +100,9 @@ impl Model for MemorySink {
 
     ghost Value = { Taker };
 
-    ghost view = { λ s. record {
-      taken = s.bytes.items;
-      failing = s.failing.items;
-      piece = s.piece;
-      calls = s.calls;
-      faults = s.faults;
-      refused = s.refused;
-    } };
+    ghost view = { λ s. record { taken = s.bytes.items; plan = s.plan; refused = s.refused } };
 
-    ghost invariant = { λ s. 0 < s.piece };
+    ghost invariant = { λ s. 0 < s.plan.piece };
 }
 
 impl MemorySink {
@@ -139,10 +111,7 @@ impl MemorySink {
         requires { 0 < piece }
         ensures exact { result ≡ record {
           taken = [];
-          failing = failing.items;
-          piece = piece;
-          calls = 0;
-          faults = 0;
+          plan = fresh_plan failing.items piece;
           refused = 0;
         } }
         ensures taken { ⟦<MemorySink as Sink>⟧.taken result ≡ Some [] }
@@ -150,10 +119,7 @@ impl MemorySink {
     {
         MemorySink {
             bytes: Vec::new(*failing.allocator()),
-            failing,
-            piece,
-            calls: 0,
-            faults: 0,
+            plan: CallPlan::new(failing, piece),
             refused: 0,
         }
     }
@@ -177,36 +143,27 @@ impl MemorySink {
 impl Sink for MemorySink {
     ghost taken = { λ s. Some s.taken };
 
-    ghost faults = { λ s. s.faults };
+    ghost faults = { λ s. s.plan.faults };
 
     fn write(&mut self, bytes: &[u8]) -> Result<usize, Failed>
         requires { 0 < length bytes.now }
         ensures bound { WritesAtMost result bytes.now }
         ensures some { IfOk result (λ n. 0 < n) }
         ensures bytes { WriteAppends (Some self.old.taken) (Some self.new.taken) result bytes.now }
-        ensures cause { HasCause self.old.faults self.new.faults result }
+        ensures cause { HasCause self.old.plan.faults self.new.plan.faults result }
 
-        // A listed call fails, and is no want of memory; any other call that fails is one.
-        ensures listed { Contains self.old.failing self.old.calls → IsErr result × (self.new.refused ≡ self.old.refused) }
-        ensures refused { ¬ Contains self.old.failing self.old.calls →
-            self.new.refused ≡ (if is_err result then next_count self.old.refused else self.old.refused) }
-        ensures amount { IfOk result (λ n. n ≡ min (length bytes.now) self.old.piece) }
-        ensures calls { self.new.calls ≡ next_count self.old.calls }
-        ensures faults { self.new.faults ≡ (if is_err result then next_count self.old.faults else self.old.faults) }
-        ensures failing { self.new.failing ≡ self.old.failing }
-        ensures piece { self.new.piece ≡ self.old.piece }
+        ensures listed { FailsAsListed self.old self.new (is_err result) }
+        ensures amount { IfOk result (λ n. n ≡ min (length bytes.now) self.old.plan.piece) }
+        ensures counted { self.new.plan ≡ after_call self.old.plan (is_err result) }
     {
-        let call = self.calls;
-        self.calls = next_count(call);
-        if self.failing.contains(&call) {
-            self.faults = next_count(self.faults);
+        let most = self.plan.piece();
+        if self.plan.begin_call() {
             return Err(Failed);
         }
-        let count = bytes.len().min(self.piece);
+        let count = bytes.len().min(most);
         if self.bytes.extend_from_slice(&bytes[..count]).is_err() {
-            self.faults = next_count(self.faults);
             self.refused = next_count(self.refused);
-            return Err(Failed);
+            return Err(self.plan.fail());
         }
         Ok(count)
     }

@@ -6,35 +6,35 @@ use crate::{MemorySink, MemorySource, StdSink, StdSource, write_all};
 use std::alloc::{AllocError as OutOfMemory, Global};
 use std::test::Fail;
 
-// Puts what a reader tells of one line behind the others: the line and `|`, `~` for one passed over, `$` for the end.
-// Says whether to go on.
-fn tell(
+// Puts what a call for the next line found behind the others: the line and `|`, `~` for one passed over, `$` for the
+// end. Says whether to go on.
+fn put_found(
     reader: &LineReader,
     next: Result<Next, LineError>,
-    told: &mut Vec<u8>,
+    found: &mut Vec<u8>,
 ) -> Result<bool, OutOfMemory> {
     let (mark, more) = match next {
         Ok(Next::Line) => {
-            told.extend_from_slice(reader.line())?;
+            found.extend_from_slice(reader.line())?;
             (b"|", true)
         }
         Ok(Next::Passed) => (b"~", true),
         Ok(Next::End) => (b"$", false),
         Err(LineError::Fault) => (b"!", true),
         Err(LineError::TooLong { line }) => {
-            let number = line.to_string(*told.allocator())?;
-            told.extend_from_slice(number.as_bytes())?;
+            let number = line.to_string(*found.allocator())?;
+            found.extend_from_slice(number.as_bytes())?;
             (b"<", false)
         }
         Err(LineError::TooMuch) => (b">", false),
         Err(LineError::OutOfMemory) => (b"?", false),
     };
-    told.extend_from_slice(mark)?;
+    found.extend_from_slice(mark)?;
     Ok(more)
 }
 
-// All that a reader tells of a text, with lines of at most 4 bytes and 40 bytes in all.
-fn telling(
+// All that a reader finds in a text, with lines of at most 4 bytes and 40 bytes in all.
+fn findings_in(
     alloc: Global,
     text: &[u8],
     failing: &[u64],
@@ -43,53 +43,53 @@ fn telling(
     let bytes = text.to_vec(alloc)?;
     let mut source = MemorySource::new(bytes, failing.to_vec(alloc)?, piece.max(1));
     let mut reader = LineReader::new(alloc, 4, 40)?;
-    let mut told = Vec::new(alloc);
+    let mut found = Vec::new(alloc);
     for _ in 0..60 {
         let next = reader.next_line(&mut source);
-        if !tell(&reader, next, &mut told)? {
+        if !put_found(&reader, next, &mut found)? {
             break;
         }
     }
-    Ok(told)
+    Ok(found)
 }
 
-// Whether a reader tells the same of a text in pieces of 1, 3 and 65,536 bytes.
-fn tells(alloc: Global, text: &[u8], told: &[u8]) -> Result<bool, OutOfMemory> {
+// Whether a reader finds the same in a text in pieces of 1, 3 and 65,536 bytes.
+fn finds(alloc: Global, text: &[u8], found: &[u8]) -> Result<bool, OutOfMemory> {
     Ok(
-        telling(alloc, text, &[], 1)?.as_slice() == told
-            && telling(alloc, text, &[], 3)?.as_slice() == told
-            && telling(alloc, text, &[], 65_536)?.as_slice() == told,
+        findings_in(alloc, text, &[], 1)?.as_slice() == found
+            && findings_in(alloc, text, &[], 3)?.as_slice() == found
+            && findings_in(alloc, text, &[], 65_536)?.as_slice() == found,
     )
 }
 
 #[test]
 fn lines_of_texts(rt: HostRuntime) -> Result<(), Fail> {
     let alloc = rt.alloc();
-    assert!(rt; tells(alloc, b"", b"$")?);
-    assert!(rt; tells(alloc, b"\n", b"~$")?);
-    assert!(rt; tells(alloc, b"ab\ncd\n", b"ab|cd|$")?);
-    assert!(rt; tells(alloc, b"ab\r\n\r\ncd", b"ab|~cd|$")?);
-    assert!(rt; tells(alloc, b"a\r\r\nb\r", b"a\r|b|$")?);
-    assert!(rt; tells(alloc, b"-- a long comment\n-\n--\r\nx", b"~-|~x|$")?);
+    assert!(rt; finds(alloc, b"", b"$")?);
+    assert!(rt; finds(alloc, b"\n", b"~$")?);
+    assert!(rt; finds(alloc, b"ab\ncd\n", b"ab|cd|$")?);
+    assert!(rt; finds(alloc, b"ab\r\n\r\ncd", b"ab|~cd|$")?);
+    assert!(rt; finds(alloc, b"a\r\r\nb\r", b"a\r|b|$")?);
+    assert!(rt; finds(alloc, b"-- a long comment\n-\n--\r\nx", b"~-|~x|$")?);
     Ok(())
 }
 
 #[test]
 fn limits_of_texts(rt: HostRuntime) -> Result<(), Fail> {
     let alloc = rt.alloc();
-    assert!(rt; tells(alloc, b"abcd\r\nabcd", b"abcd|abcd|$")?);
-    assert!(rt; tells(alloc, b"\nabcde\nf\n", b"~2<")?);
-    assert!(rt; tells(alloc, b"a\nb\nabcd\rx", b"a|b|3<")?);
-    assert!(rt; tells(alloc, b"--3456789 123456789 123456789 123456789\n", b"~$")?);
+    assert!(rt; finds(alloc, b"abcd\r\nabcd", b"abcd|abcd|$")?);
+    assert!(rt; finds(alloc, b"\nabcde\nf\n", b"~2<")?);
+    assert!(rt; finds(alloc, b"a\nb\nabcd\rx", b"a|b|3<")?);
+    assert!(rt; finds(alloc, b"--3456789 123456789 123456789 123456789\n", b"~$")?);
     assert!(rt;
-        tells(
+        finds(
             alloc,
             b"a\n--3456789 123456789 123456789 1234567\nb",
             b"a|~>"
         )?
     );
     assert!(rt;
-        tells(
+        finds(
             alloc,
             b"a\n--3456789 123456789 123456789 1234567890",
             b"a|>"
@@ -101,8 +101,8 @@ fn limits_of_texts(rt: HostRuntime) -> Result<(), Fail> {
 #[test]
 fn faults_in_mid_line(rt: HostRuntime) -> Result<(), Fail> {
     let alloc = rt.alloc();
-    let told = telling(alloc, b"abc\n--d\ne", &[0, 2, 4, 5], 2)?;
-    assert_eq!(rt; told.as_slice(), b"!!abc|!!~e|$".as_slice());
+    let found = findings_in(alloc, b"abc\n--d\ne", &[0, 2, 4, 5], 2)?;
+    assert_eq!(rt; found.as_slice(), b"!!abc|!!~e|$".as_slice());
     Ok(())
 }
 

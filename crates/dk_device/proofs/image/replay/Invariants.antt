@@ -6,5 +6,7 @@ use Rattle.dk_device.proofs.image.replay.Given as goal
 
 abbrev pub invariant-calls : goal.invariant-calls
 invariant-calls l =
-    image_after l.choice l.file l.replayed.bytes.items l.replayed.image.items (filter (λ call. nat_lt call.moment l.moment) (drop l.call-index l.calls))
-    ≡ image_after l.choice l.file l.start l.start (filter (λ call. nat_lt call.moment l.moment) l.calls)
+    image_after l.crash.choice l.crash.file l.replayed.bytes.items l.replayed.image.items
+    (filter (λ call. nat_lt call.moment l.crash.moment) (drop l.call-index l.calls))
+    ≡ image_after l.crash.choice l.crash.file l.start l.start
+    (filter (λ call. nat_lt call.moment l.crash.moment) l.calls)

@@ -6,4 +6,5 @@ use Rattle.dk_device.proofs.memory.MemoryDisk.fail.Goals as goal
 pub invariant_of-self : goal.invariant_of-self
 invariant_of-self c =
     let inside = c.self.inside in
-    stands_later inside.main inside.wal inside.calls.items inside.moment c.min-self-inside.result (omega (arith, c.self.invariant.bound)) (omega (arith, c.self.invariant.bound)) c.self.invariant
+    stands_later inside.main inside.wal inside.calls.items inside.moment c.min-self-inside.result
+    (omega (arith, c.self.invariant.bound)) (omega (arith, c.self.invariant.bound)) c.self.invariant

@@ -1,6 +1,8 @@
 -- The files read as the calls made them, with one call more.
-use Rattle.std.proofs.Common.{◌≡◌, Bool, true, false, not, is_none, is_some, Option, None, Some, ◌++◌, ◌∷◌, [], List, ap, ◌∙◌, refl, arith}
+use Rattle.std.proofs.Common.{◌≡◌, ℕ, Bool, true, false, not, is_none, is_some, Option, None, Some, ◌++◌, ◌∷◌, [], List, ap, ◌∙◌, refl, arith}
 use Rattle.dk_device.specs.declared.calls.DiskCall.{DiskCall}
+use Rattle.dk_device.specs.declared.calls.Request.{Request}
+use Rattle.dk_device.specs.declared.device.FileId.{FileId}
 use Rattle.dk_device.specs.Disk.{call_at}
 use Rattle.dk_device.proofs.ReplayLemmas.{stands_called}
 use Rattle.dk_device.proofs.memory.MemoryDisk.perform.Goals as goal
@@ -11,22 +13,27 @@ none_is None false e = cc
 none_is (Some x) true e = cc
 none_is (Some x) false e = refl
 
+-- the list with room made, and a call noted in it as done where there is no fault
+noted : {T : Type 0} (calls roomy all : List DiskCall) (m : ℕ) (file : FileId) (request : Request)
+    (fault : Option T) (none : Bool) → roomy ≡ calls → is_some fault ≡ not none
+    → all ≡ roomy ++ call_at m file request none ∷ [] → all ≡ calls ++ call_at m file request (is_none fault) ∷ []
+noted calls roomy all m file request fault none same tells is =
+    is
+    ∙ ap (λ (l : List DiskCall). l ++ call_at m file request none ∷ []) same
+    ∙ ap (λ b. calls ++ call_at m file request b ∷ []) (none_is fault none tells)
+
 pub invariant_of-self-in-None : goal.invariant_of-self-in-None
 invariant_of-self-in-None c =
-    let inside = c.self.inside in
     let tried = c.attempt_at-fault in
-    let listed = c.note.ensures
-    ∙ ap (λ (l : List DiskCall). l ++ call_at inside.moment c.args.file c.args.request c.is_none.result ∷ []) c.reserve.ensures.items
-    ∙ ap (λ b. inside.calls.items ++ call_at inside.moment c.args.file c.args.request b ∷ []) (none_is tried.result c.is_none.result c.is_none.ensures) in
-    stands_called inside.main inside.wal tried.new.main tried.new.wal inside.calls.items _ inside.moment c.args.file c.args.request (is_none tried.result) c.self.invariant (omega arith)
-    tried.ensures.main_start tried.ensures.wal_start tried.ensures.main tried.ensures.wal listed
+    stands_called _ _ _ _ _ _ _ c.args.file c.args.request (is_none tried.result) c.self.invariant (omega arith)
+    tried.ensures.main_start tried.ensures.wal_start tried.ensures.main tried.ensures.wal
+    (noted _ _ _ _ c.args.file c.args.request tried.result c.is_none.result c.reserve.ensures.items
+    c.is_none.ensures c.note.ensures)
 
 pub invariant_of-self-in-Some : goal.invariant_of-self-in-Some
 invariant_of-self-in-Some c =
-    let inside = c.self.inside in
     let tried = c.attempt_at-fault in
-    let listed = c.note.ensures
-    ∙ ap (λ (l : List DiskCall). l ++ call_at inside.moment c.args.file c.args.request c.is_none.result ∷ []) c.reserve.ensures.items
-    ∙ ap (λ b. inside.calls.items ++ call_at inside.moment c.args.file c.args.request b ∷ []) (none_is tried.result c.is_none.result c.is_none.ensures) in
-    stands_called inside.main inside.wal tried.new.main tried.new.wal inside.calls.items _ inside.moment c.args.file c.args.request (is_none tried.result) c.self.invariant (omega arith)
-    tried.ensures.main_start tried.ensures.wal_start tried.ensures.main tried.ensures.wal listed
+    stands_called _ _ _ _ _ _ _ c.args.file c.args.request (is_none tried.result) c.self.invariant (omega arith)
+    tried.ensures.main_start tried.ensures.wal_start tried.ensures.main tried.ensures.wal
+    (noted _ _ _ _ c.args.file c.args.request tried.result c.is_none.result c.reserve.ensures.items
+    c.is_none.ensures c.note.ensures)

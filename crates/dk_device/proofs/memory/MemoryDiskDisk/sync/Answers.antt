@@ -6,10 +6,12 @@ pub returns-clause-durable : goal.returns-clause-durable
 returns-clause-durable c = sync_durable _ _ _ _ c.perform.ensures.went
 
 pub returns-clause-content : goal.returns-clause-content
-returns-clause-content c = same_told c.args.self.now.history c.perform.new.self.history (sync_content _ _ _ _ c.perform.ensures.went)
+returns-clause-content c =
+    same_told c.args.self.now.history c.perform.new.self.history (sync_content _ _ _ _ c.perform.ensures.went)
 
 pub returns-clause-extent : goal.returns-clause-extent
-returns-clause-extent c = same_length c.args.self.now.history c.perform.new.self.history (sync_content _ _ _ _ c.perform.ensures.went)
+returns-clause-extent c =
+    same_length c.args.self.now.history c.perform.new.self.history (sync_content _ _ _ _ c.perform.ensures.went)
 
 pub returns-clause-crash : goal.returns-clause-crash
 returns-clause-crash c = sync_left _ _ _ _ c.perform.ensures.went

@@ -1,63 +1,88 @@
-use Rattle.std.proofs.Common.{rules, arith, ◌∙◌, Bool}
-use Rattle.dk_io.specs.declared.lines.Next.{Next}
+-- What the steps of a turn did, the call did so far.
+use Rattle.std.proofs.Common.{rules, ◌∙◌}
 use Rattle.std.proofs.lemmas.Result.{err_from_is_err_and}
-use Rattle.dk_io.proofs.ReaderLemmas.{counts_more, long_there, moves_stay, stay_on, fill_stays}
+use Rattle.dk_io.proofs.CallLemmas.{keeps_filled, keeps_moved, counts_filled, counts_stepped, stops_moving, goes_on}
 use Rattle.dk_io.proofs.PassLemmas.{passes_on, passes_moved, passes_filled, passes_ended}
 use Rattle.dk_io.proofs.lines.LineReader.read_on.Goals as goal
 
+-- what was read ended no line yet
+pub returns-in_err-fill-clause-end : goal.returns-in_err-fill-clause-end
+returns-in_err-fill-clause-end g c =
+    let p = err_from_is_err_and c.from_residual.result c.from_residual.ensures.1 in
+    rw (p.1) (goes_on _ _ _ _ _ _ (c.in_err-fill.ensures.counts.ended ∙ c.pieces.invariant.kept.going)
+    (passes_on _ _ _ _ _ _ _ _ c.pieces.invariant.passes
+    (passes_filled c.pieces.self c.fill.new.self _ _ c.pieces.invariant.held c.in_err-fill.ensures.fills.begun
+    c.in_err-fill.ensures.fills.bytes)))
+
+pub returns-in_err-fill-clause-counts : goal.returns-in_err-fill-clause-counts
+returns-in_err-fill-clause-counts g c =
+    counts_filled _ _ _ _ _ _ _ _ _ c.pieces.invariant.counts c.in_err-fill.ensures.fills c.in_err-fill.ensures.counts
+
 -- a line that is past the limit when it is looked at was so before
-pub returns-in_err-take_held-clause-long : goal.returns-in_err-take_held-clause-long
-returns-in_err-take_held-clause-long g c =
+pub returns-in_err-take_held-clause-reason : goal.returns-in_err-take_held-clause-reason
+returns-in_err-take_held-clause-reason g c =
     let p = err_from_is_err_and c.from_residual-in_err-take_held.result c.from_residual-in_err-take_held.ensures.1 in
-    let kept = stay_on _ _ _ c.pieces.invariant.lines (fill_stays c.pieces.self c.fill.new.self _ _ c.pieces.invariant.held c.in_ok-fill.ensures.begun c.in_ok-fill.ensures.bytes) in
-    rw (p.1, p.2) (long_there Bool Next c.args.self.now c.fill.new.self c.take_held.new.self (g.S.Source.left c.args.source.now) (g.S.Source.left c.fill.new.source) c.in_err-take_held.field-0.0
-    kept (c.in_ok-fill.ensures.number ∙ c.pieces.invariant.number) (c.in_ok-fill.ensures.limit ∙ c.pieces.invariant.limit)
-    c.in_err-take_held.ensures.moved c.in_err-take_held.ensures.long)
+    let kept = keeps_filled _ _ _ _ _ _ _ c.pieces.invariant.kept c.pieces.invariant.held c.in_ok-fill.ensures.fills
+    c.in_ok-fill.ensures.counts in
+    rw (p.1, p.2) (stops_moving _ _ _ _ _ _ _ kept
+    (c.in_ok-fill.ensures.counts.limit ∙ c.pieces.invariant.counts.limit) c.in_err-take_held.ensures.moved
+    c.in_err-take_held.ensures.reason)
 
--- what was read was counted
-pub returns-in_err-take_held-clause-taken : goal.returns-in_err-take_held-clause-taken
-returns-in_err-take_held-clause-taken g c = counts_more _ _ _ _ _ _ _ c.pieces.invariant.counts (c.in_err-take_held.ensures.taken ∙ c.in_ok-fill.ensures.taken) c.in_ok-fill.ensures.bytes
+pub returns-in_err-take_held-clause-end : goal.returns-in_err-take_held-clause-end
+returns-in_err-take_held-clause-end g c =
+    let p = err_from_is_err_and c.from_residual-in_err-take_held.result c.from_residual-in_err-take_held.ensures.1 in
+    rw (p.1) (goes_on _ _ _ _ _ _ (c.in_err-take_held.ensures.counts.ended ∙ c.in_ok-fill.ensures.counts.ended
+    ∙ c.pieces.invariant.kept.going)
+    (passes_on _ _ _ _ _ _ _ _
+    (passes_on _ _ _ _ _ _ _ _ c.pieces.invariant.passes
+    (passes_filled c.pieces.self c.fill.new.self _ _ c.pieces.invariant.held c.in_ok-fill.ensures.fills.begun
+    c.in_ok-fill.ensures.fills.bytes))
+    (passes_moved c.fill.new.self c.take_held.new.self (g.S.Source.left c.fill.new.source)
+    c.in_err-take_held.ensures.moved)))
 
-pub returns-then-branch-clause-taken : goal.returns-then-branch-clause-taken
-returns-then-branch-clause-taken g c = counts_more _ _ _ _ _ _ _ c.pieces.invariant.counts (c.end_held.ensures.taken ∙ c.in_ok-take_held.ensures.taken ∙ c.in_ok-fill.ensures.taken) c.in_ok-fill.ensures.bytes
+pub returns-in_err-take_held-clause-counts : goal.returns-in_err-take_held-clause-counts
+returns-in_err-take_held-clause-counts g c =
+    counts_stepped _ _ _ _ _ _ _ _
+    (counts_filled _ _ _ _ _ _ _ _ _ c.pieces.invariant.counts c.in_ok-fill.ensures.fills
+    c.in_ok-fill.ensures.counts) c.in_err-take_held.ensures.counts
+
+-- the line feed that is held ends a line, whatever follows
+pub returns-then-branch-clause-end : goal.returns-then-branch-clause-end
+returns-then-branch-clause-end g c =
+    goes_on _ _ _ _ _ _ (c.end_held.ensures.counts.ended ∙ c.in_ok-take_held.ensures.counts.ended
+    ∙ c.in_ok-fill.ensures.counts.ended ∙ c.pieces.invariant.kept.going)
+    (passes_on _ _ _ _ _ _ _ _
+    (passes_on _ _ _ _ _ _ _ _
+    (passes_on _ _ _ _ _ _ _ _ c.pieces.invariant.passes
+    (passes_filled c.pieces.self c.fill.new.self _ _ c.pieces.invariant.held c.in_ok-fill.ensures.fills.begun
+    c.in_ok-fill.ensures.fills.bytes))
+    (passes_moved c.fill.new.self c.take_held.new.self (g.S.Source.left c.fill.new.source)
+    c.in_ok-take_held.ensures.moved))
+    (passes_ended c.take_held.new.self c.end_held.new.self _ (g.S.Source.left c.fill.new.source)
+    c.end_held.ensures.line))
+
+pub returns-then-branch-clause-counts : goal.returns-then-branch-clause-counts
+returns-then-branch-clause-counts g c =
+    counts_stepped _ _ _ _ _ _ _ _
+    (counts_stepped _ _ _ _ _ _ _ _
+    (counts_filled _ _ _ _ _ _ _ _ _ c.pieces.invariant.counts c.in_ok-fill.ensures.fills
+    c.in_ok-fill.ensures.counts) c.in_ok-take_held.ensures.counts) c.end_held.ensures.counts
 
 pub pieces-preserved : goal.pieces-preserved
 pieces-preserved g c = record {
   held = search rules;
-  fits = rw c.in_ok-take_held.ensures.limit c.in_ok-take_held.ensures.fits;
-  lines =
-      let kept = stay_on _ _ _ c.pieces.invariant.lines (fill_stays c.pieces.self c.fill.new.self _ _ c.pieces.invariant.held c.in_ok-fill.ensures.begun c.in_ok-fill.ensures.bytes) in
-      stay_on _ _ _ kept (moves_stay _ _ _ c.in_ok-take_held.ensures.moved);
+  fits = rw c.in_ok-take_held.ensures.counts.limit c.in_ok-take_held.ensures.fits;
+  kept = keeps_moved _ _ _ _ _ _ _
+      (keeps_filled _ _ _ _ _ _ _ c.pieces.invariant.kept c.pieces.invariant.held c.in_ok-fill.ensures.fills
+      c.in_ok-fill.ensures.counts) c.in_ok-take_held.ensures.moved c.in_ok-take_held.ensures.counts;
   passes = passes_on _ _ _ _ _ _ _ _
-      (passes_on _ _ _ _ _ _ _ _ c.pieces.invariant.passes (passes_filled c.pieces.self c.fill.new.self _ _ c.pieces.invariant.held c.in_ok-fill.ensures.begun c.in_ok-fill.ensures.bytes))
-      (passes_moved c.fill.new.self c.take_held.new.self (g.S.Source.left c.fill.new.source) c.in_ok-take_held.ensures.moved);
-  going = c.in_ok-take_held.ensures.ended ∙ c.in_ok-fill.ensures.ended ∙ c.pieces.invariant.going;
-  counts = counts_more _ _ _ _ _ _ _ c.pieces.invariant.counts (c.in_ok-take_held.ensures.taken ∙ c.in_ok-fill.ensures.taken) c.in_ok-fill.ensures.bytes;
-  number = c.in_ok-take_held.ensures.number ∙ c.in_ok-fill.ensures.number ∙ c.pieces.invariant.number;
-  limit = c.in_ok-take_held.ensures.limit ∙ c.in_ok-fill.ensures.limit ∙ c.pieces.invariant.limit;
-  total = c.in_ok-take_held.ensures.total ∙ c.in_ok-fill.ensures.total ∙ c.pieces.invariant.total;
-  taken = search rules;
-  later = omega (arith, c.pieces.invariant.later, c.in_ok-fill.ensures.later);
+      (passes_on _ _ _ _ _ _ _ _ c.pieces.invariant.passes
+      (passes_filled c.pieces.self c.fill.new.self _ _ c.pieces.invariant.held c.in_ok-fill.ensures.fills.begun
+      c.in_ok-fill.ensures.fills.bytes))
+      (passes_moved c.fill.new.self c.take_held.new.self (g.S.Source.left c.fill.new.source)
+      c.in_ok-take_held.ensures.moved);
+  counts = counts_stepped _ _ _ _ _ _ _ _
+      (counts_filled _ _ _ _ _ _ _ _ _ c.pieces.invariant.counts c.in_ok-fill.ensures.fills
+      c.in_ok-fill.ensures.counts) c.in_ok-take_held.ensures.counts;
+  within = search rules;
 }
-
--- what was read ended these lines
-pub returns-in_err-fill-clause-passes : goal.returns-in_err-fill-clause-passes
-returns-in_err-fill-clause-passes g c going =
-    let p = err_from_is_err_and c.from_residual.result c.from_residual.ensures.1 in
-    rw (p.1) (passes_on _ _ _ _ _ _ _ _ c.pieces.invariant.passes
-    (passes_filled c.pieces.self c.fill.new.self _ _ c.pieces.invariant.held c.in_err-fill.ensures.begun c.in_err-fill.ensures.bytes))
-
-pub returns-in_err-take_held-clause-passes : goal.returns-in_err-take_held-clause-passes
-returns-in_err-take_held-clause-passes g c going =
-    let p = err_from_is_err_and c.from_residual-in_err-take_held.result c.from_residual-in_err-take_held.ensures.1 in
-    rw (p.1) (passes_on _ _ _ _ _ _ _ _
-    (passes_on _ _ _ _ _ _ _ _ c.pieces.invariant.passes (passes_filled c.pieces.self c.fill.new.self _ _ c.pieces.invariant.held c.in_ok-fill.ensures.begun c.in_ok-fill.ensures.bytes))
-    (passes_moved c.fill.new.self c.take_held.new.self (g.S.Source.left c.fill.new.source) c.in_err-take_held.ensures.moved))
-
-pub returns-then-branch-clause-passes : goal.returns-then-branch-clause-passes
-returns-then-branch-clause-passes g c going =
-    passes_on _ _ _ _ _ _ _ _
-    (passes_on _ _ _ _ _ _ _ _
-    (passes_on _ _ _ _ _ _ _ _ c.pieces.invariant.passes (passes_filled c.pieces.self c.fill.new.self _ _ c.pieces.invariant.held c.in_ok-fill.ensures.begun c.in_ok-fill.ensures.bytes))
-    (passes_moved c.fill.new.self c.take_held.new.self (g.S.Source.left c.fill.new.source) c.in_ok-take_held.ensures.moved))
-    (passes_ended c.take_held.new.self c.end_held.new.self _ (g.S.Source.left c.fill.new.source) c.end_held.ensures.line)

@@ -1,4 +1,4 @@
--- What a reader makes of the bytes that a source gives, while its input goes on.
+-- The lines that a call gave, and the bytes of the source that ended them while the input goes on.
 use Rattle.std.specs.Prelude.{◌≡◌, ℕ, List, [], ◌∷◌, ◌++◌, Option, None, Some, Result, Ok, Err}
 use Rattle.std.specs.Io.KnownBytes.{Consumes}
 use Rattle.dk_io.specs.Lines.{contents_after}
@@ -17,7 +17,9 @@ lines_given (Ok next) line = one_line (answer_content next line)
 lines_given (Err e) line = []
 
 -- the bytes that the source gave ended these lines, whatever text follows them
-pub record Passes (old new : ReaderState) (before after : Option (List ℕ)) (lines : List (Option (List ℕ))) : Type 0 where
-  pub bytes : List ℕ
-  pub given : Consumes before after bytes
-  pub same : (text : List ℕ) → contents_after old.begun (old.held ++ (bytes ++ text)) ≡ lines ++ contents_after new.begun (new.held ++ text)
+pub record Passes (old new : ReaderState) (before after : Option (List ℕ)) (lines : List (Option (List ℕ))) : Type 0
+  where
+    pub bytes : List ℕ
+    pub given : Consumes before after bytes
+    pub same : (text : List ℕ) → contents_after old.begun (old.held ++ (bytes ++ text)) ≡ lines ++ contents_after
+        new.begun (new.held ++ text)
