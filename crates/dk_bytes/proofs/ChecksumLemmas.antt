@@ -1,13 +1,14 @@
 -- The checksum tells byte strings apart that differ in one word.
+use Rattle.dk_bytes.specs.Fields.{IsBytes}
 use Rattle.std.proofs.Common.{◌≡◌, ℕ, zero, suc, ◌+◌, ◌*◌, ◌/◌, ◌%◌, ◌^◌, ◌<◌, List, [], ◌∷◌, ◌++◌, length, fold, drop, sym, ap, subst, ◌∙◌, arith}
 use Rattle.std.specs.Prelude.{bit_xor}
 use Rattle.std.specs.List.{AllByRecursion}
-use Rattle.std.specs.Int.{w64, from_le_bytes, bit_at}
+use Rattle.std.specs.Int.{bit_at}
 use Rattle.std.specs.Int.Bits.{xor_assoc, xor_self, xor_zero_r}
 use Rattle.std.proofs.lemmas.Nat.{xor_comm, xor_lt, shr-shr}
 use Rattle.std.proofs.lemmas.Nat.Bits.{bit_at_xor, same_from_bits}
-use Rattle.dk_bytes.specs.Checksum.{spread, with_word, words, word_count, with_bytes, checksum_of, DifferInOneWord}
-use Rattle.dk_bytes.proofs.NumberLemmas.{IsBytes, IsBytes-drop, wide64}
+use Rattle.dk_bytes.specs.Checksum.{spread, with_word, words, word_count, checksum_of, DifferInOneWord}
+use Rattle.dk_bytes.proofs.NumberLemmas.{IsBytes-drop, wide64}
 
 -- ---- exclusive or
 

@@ -1,5 +1,5 @@
 -- A reading that fails does so at the bytes' end or before it.
-use Rattle.std.proofs.Common.{◌≡◌, ℕ, ◌+◌, ◌≤◌, Bool, true, false, cond, ltb, eqb, List, length, take, Option, Some, None, Result, Ok, Err, refl, arith, length-drop}
+use Rattle.std.proofs.Common.{◌≡◌, ℕ, ◌+◌, ◌≤◌, Bool, true, false, cond, ltb, eqb, length, take, Option, Some, None, Result, Ok, Err, refl, arith, length-drop}
 use Rattle.std.proofs.lemmas.Bool.{ltb-false}
 use Rattle.std.specs.Int.{Width, w8, w16, w32, w64, byte_len, from_le_bytes}
 use Rattle.std.specs.Str.{is_utf8}

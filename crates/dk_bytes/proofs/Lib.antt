@@ -9,3 +9,11 @@ pub mod PresenceLemmas
 pub mod ChecksumLemmas
 pub mod FrontLemmas
 pub mod AppendLemmas
+pub mod SpellLemmas
+pub mod ColumnLemmas
+pub mod RowLemmas
+pub mod DigitLemmas
+pub mod PackingLemmas
+pub mod WidthLemmas
+pub mod JoinedBitsLemmas
+pub mod BodyLemmas

@@ -1,25 +1,25 @@
 -- What a reader answered, and what reading gives.
-use Rattle.std.proofs.Common.{◌≡◌, ℕ, cond, eqb, List, [], ◌∷◌, length, Result, Ok, Err, refl, sym, subst, arith}
+use Rattle.std.proofs.Common.{◌≡◌, ℕ, cond, eqb, [], length, Result, Ok, Err, refl, sym, subst}
 use Rattle.std.specs.Prelude.{IfOk}
 use Rattle.std.proofs.lemmas.Bool.Decides.{Decides-eqb}
-use Rattle.dk_bytes.specs.declared.segment_error.SegError.{SegError}
-use Rattle.dk_bytes.specs.declared.segment_error.SegError.TheVariants.{Malformed, OutOfMemory}
+use Rattle.dk_bytes.specs.declared.field_error.FieldError.{FieldError}
+use Rattle.dk_bytes.specs.declared.field_error.FieldError.TheVariants.{Malformed, OutOfMemory}
 use Rattle.dk_bytes.specs.Fields.{Place}
 use Rattle.dk_bytes.specs.Reading.{FailsAt, Gives, whole}
 use Rattle.dk_bytes.proofs.NumberLemmas.{bind_ok, chosen_ok}
 use Rattle.std.proofs.lemmas.List.{nil_from_length}
 
 -- what holds of each value that is read holds of the one that was answered
-pub gives_found : {X Y : Type 0} (view : X → Y) (P : Y → Type 0) (r : Result X SegError) (reading : Result Y ℕ) → Gives view r reading → ((y : Y) → reading ≡ Ok y → P y) → IfOk r (λ x. P (view x))
+pub gives_found : {X Y : Type 0} (view : X → Y) (P : Y → Type 0) (r : Result X FieldError) (reading : Result Y ℕ) → Gives view r reading → ((y : Y) → reading ≡ Ok y → P y) → IfOk r (λ x. P (view x))
 gives_found view P (Ok x) reading g k = k (view x) g
 gives_found view P (Err e) reading g k = tt
 
 -- what reading gives was answered
-pub gives_only : {X Y : Type 0} (view : X → Y) (r : Result X SegError) (reading : Result Y ℕ) (y : Y) → Gives view r reading → reading ≡ Ok y → Gives view r (Ok y)
+pub gives_only : {X Y : Type 0} (view : X → Y) (r : Result X FieldError) (reading : Result Y ℕ) (y : Y) → Gives view r reading → reading ≡ Ok y → Gives view r (Ok y)
 gives_only view r reading y g e = subst (λ (s : Result _ ℕ). Gives view r s) e g
 
 -- a reading that failed, in a longer one that ends there
-pub fails_then : {Y Z : Type 0} (e : SegError) (reading : Result Y ℕ) (longer : Result Z ℕ) → ((at : ℕ) → reading ≡ Err at → longer ≡ Err at) → FailsAt e reading → FailsAt e longer
+pub fails_then : {Y Z : Type 0} (e : FieldError) (reading : Result Y ℕ) (longer : Result Z ℕ) → ((at : ℕ) → reading ≡ Err at → longer ≡ Err at) → FailsAt e reading → FailsAt e longer
 fails_then (Malformed at) reading longer k h = k at h
 fails_then OutOfMemory reading longer k h = tt
 

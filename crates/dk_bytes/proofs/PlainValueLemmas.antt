@@ -1,5 +1,5 @@
 -- A value that is read is the value that was written, and what was written is read again.
-use Rattle.std.proofs.Common.{◌≡◌, ℕ, zero, suc, ◌+◌, ◌^◌, ◌<◌, Bool, true, false, cond, ltb, eqb, List, [], ◌∷◌, ◌++◌, length, Result, Ok, Err, ℤ, refl, sym, subst, ◌∙◌, arith, IsUtf8}
+use Rattle.std.proofs.Common.{◌≡◌, ℕ, zero, suc, ◌+◌, ◌^◌, ◌<◌, Bool, true, false, cond, ltb, eqb, List, [], ◌∷◌, ◌++◌, length, Ok, Err, ℤ, refl, sym, subst, ◌∙◌, arith, IsUtf8}
 use Rattle.std.specs.Prelude.{FitsSigned}
 use Rattle.std.specs.Int.{w8, w16, w32, w64, to_le_bytes, cast_signed, cast_unsigned}
 use Rattle.std.specs.Str.{is_utf8}
@@ -11,10 +11,10 @@ use Rattle.dk_values.specs.declared.value.ColType.{ColType}
 use Rattle.dk_values.specs.declared.value.ColType.TheVariants as types
 use Rattle.dk_values.specs.declared.value.Value.{Value}
 use Rattle.dk_values.specs.declared.value.Value.TheVariants as values
-use Rattle.dk_bytes.specs.Fields.{Place, bytes_at, number_at}
+use Rattle.dk_bytes.specs.Fields.{IsBytes, Place, bytes_at, number_at}
 use Rattle.dk_bytes.specs.Reading.{◌>>=◌}
 use Rattle.dk_bytes.specs.PlainValue.{IsPlain, bit_byte, plain_bytes, bool_at, int_at, big_at, text_at, value_at}
-use Rattle.dk_bytes.proofs.NumberLemmas.{IsBytes, low_byte, Takes, Takes-then, bind_ok, chosen_ok, wide8, wide16, wide32, wide64, bytes_takes, bytes_again, number_takes, number_again, done, ok_is}
+use Rattle.dk_bytes.proofs.NumberLemmas.{low_byte, Takes, Takes-then, bind_ok, chosen_ok, wide8, wide16, wide32, wide64, bytes_takes, bytes_again, number_takes, number_again, done, ok_is}
 
 -- what reading took from the front is this value of the type
 pub record IsTaken (kind : ColType) (old new : Place) (value : Value) : Type 0 where

@@ -1,7 +1,10 @@
 //! A cursor over a byte string, which reads fields of numbers from its front.
-ghost use Rattle.std.specs.Prelude.{◌≡◌, ◌+◌, ◌^◌, ◌<◌, ◌↔◌, [], ◌∷◌, length, Ok, Err, IsErr, IfOk, IfErr, OnErr};
+ghost use Rattle.std.specs.Prelude.{◌≡◌, ◌+◌, ◌^◌, ◌<◌, ◌↔◌, [], ◌∷◌, length, Ok, Err, IsOk, IsErr, IfOk, IfErr, OnErr};
 ghost use Rattle.std.specs.Int.{w8, w16, w32, w64, to_le_bytes};
+ghost use Rattle.dk_bytes.specs.Fields.{IsBytes};
+ghost use Rattle.dk_bytes.specs.declared.field_error.FieldError.TheVariants.{Malformed};
 
+use crate::field_error::FieldError;
 use crate::word::word_of;
 use std::marker::Model;
 use thiserror::Error;
@@ -31,6 +34,14 @@ impl<'a> Model for Cursor<'a> {
     ghost invariant = { λ c. c.at + length c.rest.now < 2 ^ 64 };
 }
 
+/// How many bytes these are.
+fn len_of(bytes: &[u8]) -> usize
+    ensures len { result ≡ length bytes.now }
+    ensures bytes { IsBytes bytes.now }
+{
+    bytes.len()
+}
+
 impl<'a> Cursor<'a> {
     ghost use Rattle.dk_bytes.specs.Fields.{Passes, number_at};
 
@@ -48,11 +59,24 @@ impl<'a> Cursor<'a> {
         self.at
     }
 
+    /// Ends a reading. Bytes that are left over are charged to the first of them.
+    pub fn finish(&self) -> Result<(), FieldError>
+        ensures ok { IsOk result ↔ (length self.now.rest ≡ 0) }
+        ensures fault { IfErr result (λ e. e ≡ Malformed self.now.at) }
+    {
+        if self.rest.is_empty() {
+            Ok(())
+        } else {
+            Err(FieldError::Malformed { at: self.at })
+        }
+    }
+
     /// How many bytes are left.
     pub fn left(&self) -> usize
-        ensures { result ≡ length self.now.rest }
+        ensures left { result ≡ length self.now.rest }
+        ensures bytes { IsBytes self.now.rest }
     {
-        self.rest.len()
+        len_of(self.rest)
     }
 
     pub fn u8(&mut self) -> Result<u8, Short>

@@ -3,13 +3,15 @@ ghost use Rattle.std.specs.Prelude.{◌≡◌, ◌+◌, ◌++◌, ◌<◌, ◌�
 ghost use Rattle.std.specs.Int.{to_le_bytes, w16};
 ghost use Rattle.std.specs.List.{AllByRecursion};
 ghost use Rattle.dk_values.specs.declared.value.Value.TheVariants as values;
-ghost use Rattle.dk_bytes.specs.Reading.{Gives};
+ghost use Rattle.dk_bytes.specs.Reading.{Gives, Reads, Spells};
+ghost use Rattle.dk_bytes.specs.Fields.{Place};
+ghost use Rattle.dk_values.specs.declared.value.Value.{Value};
 ghost use Rattle.dk_bytes.specs.PlainValue.{IsPlain, same, plain_bytes, present, value_at, bool_at, int_at, big_at, text_at};
 
 use crate::cursor::Cursor;
+use crate::field_error::FieldError;
 use crate::present::split_present;
 use crate::put::{cut_if_failed, put_u8, put_u16, put_u32, put_u64};
-use crate::segment_error::SegError;
 use dk_values::{ColType, List, OutOfMemory, Value, is_utf8};
 use std::alloc::Global;
 
@@ -114,8 +116,20 @@ pub fn copy_value(alloc: Global, value: &Value) -> Result<Value, OutOfMemory>
 }
 
 /// Reads the plain bytes of a value. Where it fails the cursor may stand behind fields that were read.
-pub fn read_value(alloc: Global, cursor: &mut Cursor, kind: ColType) -> Result<Value, SegError>
-    ensures reads { Gives (λ v. (v, cursor.new)) result (value_at kind cursor.old) }
+pub fn read_value(alloc: Global, cursor: &mut Cursor, kind: ColType) -> Result<Value, FieldError>
+    ensures found { IfOk result (λ value. Spells (IsPlain kind) plain_bytes value cursor.old cursor.new) }
+    ensures only { (value : Value) (behind : Place)
+        → Spells (IsPlain kind) plain_bytes value cursor.old behind
+        → Reads (λ v. v) result cursor.new (Ok (value, behind)) }
+    ensures reads { Reads (λ value. value) result cursor.new (value_at kind cursor.old) }
+{
+    // What is left are bytes, and so each number has one spelling.
+    let _left = cursor.left();
+    next_value(alloc, cursor, kind)
+}
+
+fn next_value(alloc: Global, cursor: &mut Cursor, kind: ColType) -> Result<Value, FieldError>
+    ensures { Reads (λ value. value) result cursor.new (value_at kind cursor.old) }
 {
     match kind {
         ColType::Bool => read_bool(cursor),
@@ -126,19 +140,19 @@ pub fn read_value(alloc: Global, cursor: &mut Cursor, kind: ColType) -> Result<V
 }
 
 #[tactic(auto, unfolding(crate::specs::PlainValue::bool_at))]
-fn read_bool(cursor: &mut Cursor) -> Result<Value, SegError>
+fn read_bool(cursor: &mut Cursor) -> Result<Value, FieldError>
     ensures { Gives (λ v. (v, cursor.new)) result (bool_at cursor.old) }
 {
     let at = cursor.at();
     match cursor.u8()? {
         0 => Ok(Value::Bool(false)),
         1 => Ok(Value::Bool(true)),
-        _ => Err(SegError::Malformed { at }),
+        _ => Err(FieldError::Malformed { at }),
     }
 }
 
 #[tactic(auto, unfolding(crate::specs::PlainValue::int_at))]
-fn read_int(cursor: &mut Cursor) -> Result<Value, SegError>
+fn read_int(cursor: &mut Cursor) -> Result<Value, FieldError>
     ensures { Gives (λ v. (v, cursor.new)) result (int_at cursor.old) }
 {
     let number = cursor.u32()?;
@@ -146,14 +160,14 @@ fn read_int(cursor: &mut Cursor) -> Result<Value, SegError>
 }
 
 #[tactic(auto, unfolding(crate::specs::PlainValue::big_at))]
-fn read_big(cursor: &mut Cursor) -> Result<Value, SegError>
+fn read_big(cursor: &mut Cursor) -> Result<Value, FieldError>
     ensures { Gives (λ v. (v, cursor.new)) result (big_at cursor.old) }
 {
     let number = cursor.u64()?;
     Ok(Value::Big(number.cast_signed()))
 }
 
-fn read_text(alloc: Global, cursor: &mut Cursor) -> Result<Value, SegError>
+fn read_text(alloc: Global, cursor: &mut Cursor) -> Result<Value, FieldError>
     ensures { Gives (λ v. (v, cursor.new)) result (text_at cursor.old) }
 {
     let text = take_text(cursor)?;
@@ -162,7 +176,7 @@ fn read_text(alloc: Global, cursor: &mut Cursor) -> Result<Value, SegError>
 
 /// Lends the text that stands next, behind its length. Where it fails the cursor may stand behind the length.
 #[tactic(auto, unfolding(crate::specs::PlainValue::text_at))]
-pub fn take_text<'a>(cursor: &mut Cursor<'a>) -> Result<&'a [u8], SegError>
+pub fn take_text<'a>(cursor: &mut Cursor<'a>) -> Result<&'a [u8], FieldError>
     ensures { Gives (λ text. (values.Text text.now, cursor.new)) result (text_at cursor.old) }
 {
     let len = cursor.u16()?;
@@ -171,6 +185,6 @@ pub fn take_text<'a>(cursor: &mut Cursor<'a>) -> Result<&'a [u8], SegError>
     if is_utf8(text) {
         Ok(text)
     } else {
-        Err(SegError::Malformed { at })
+        Err(FieldError::Malformed { at })
     }
 }
