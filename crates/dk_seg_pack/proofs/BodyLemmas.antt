@@ -7,9 +7,9 @@ use Rattle.std.proofs.lemmas.List.{take_all, take-append-le, take-append-drop}
 use Rattle.std.proofs.lemmas.List.Elements.{All-from_recursion}
 use Rattle.dk_values.specs.declared.value.Value.{Value}
 use Rattle.dk_values.specs.declared.value.ColType.{ColType}
-use Rattle.dk_seg_pack.specs.Bits.{byte_count, packed}
+use Rattle.dk_bytes.specs.Bits.{byte_count, packed}
 use Rattle.dk_seg_pack.specs.Packed.{rank_of, least, greatest, width_of, differences, half_turned, packed_bytes, value_of_rank, with_value, values_above}
-use Rattle.dk_seg_pack.proofs.DigitLemmas.{length-digits}
+use Rattle.dk_bytes.proofs.DigitLemmas.{length-digits}
 use Rattle.dk_bytes.proofs.AppendLemmas.{three_joined}
 
 pub map_twice : {A : Type 0} (f : A → ℕ) (g : ℕ → ℕ) (xs : List A) → map g (map f xs) ≡ map (λ x. g (f x)) xs
@@ -61,24 +61,6 @@ fields_joined values ds base base' width out out1 out2 out3 e e' f g p q r =
     three_joined out (to_le_bytes w64 base') (width ∷ []) (packed width ds) out1 out2 out3 p q r
     ∙ ap (λ (xs : List ℕ). out ++ (xs ++ (width ∷ packed width ds))) first
     ∙ ap (λ (xs : List ℕ). out ++ (to_le_bytes w64 (half_turned (least (map rank_of values))) ++ xs)) second
-
--- bytes that were there stay in front
-pub kept_in_front : (old more : List ℕ) → take (length old) (old ++ more) ≡ old
-kept_in_front old more = take-append-le (length old) old more (omega arith) ∙ take_all (length old) old (omega arith)
-
-pub kept_then : (old mid new : List ℕ) → take (length old) mid ≡ old → take (length mid) new ≡ mid → take (length old) new ≡ old
-kept_then old mid new h k =
-    let whole : new ≡ mid ++ drop (length mid) new = sym (take-append-drop (length mid) new) ∙ ap (λ (xs : List ℕ). xs ++ drop (length mid) new) k in
-    let front : mid ≡ old ++ drop (length old) mid = sym (take-append-drop (length old) mid) ∙ ap (λ (xs : List ℕ). xs ++ drop (length old) mid) h in
-    let both : new ≡ old ++ (drop (length old) mid ++ drop (length mid) new) =
-    whole ∙ ap (λ (xs : List ℕ). xs ++ drop (length mid) new) front ∙ append_assoc old (drop (length old) mid) (drop (length mid) new) in
-    ap (take (length old)) both ∙ kept_in_front old (drop (length old) mid ++ drop (length mid) new)
-
--- two fields that were appended, and what was appended behind them
-pub kept_behind : (old a b out1 out2 out3 : List ℕ) → out1 ≡ old ++ a → out2 ≡ out1 ++ b → take (length out2) out3 ≡ out2 → take (length old) out3 ≡ old
-kept_behind old a b out1 out2 out3 p q k =
-    let both : out2 ≡ old ++ (a ++ b) = q ∙ ap (λ (xs : List ℕ). xs ++ b) p ∙ append_assoc old a b in
-    kept_then old out2 out3 (ap (take (length old)) both ∙ kept_in_front old (a ++ b)) k
 
 grown : (value : Value) (so_far : List Value) (rest : Option (List Value)) → option_map (λ values. (so_far ++ value ∷ []) ++ values) rest ≡ option_map (λ values. so_far ++ values) (with_value (Some value) rest)
 grown value so_far None = refl

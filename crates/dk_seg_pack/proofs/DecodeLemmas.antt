@@ -1,23 +1,25 @@
 -- Exactly the bodies are read, each as its values.
 use Rattle.std.proofs.Common.{◌≡◌, ℕ, zero, suc, ◌+◌, ◌-◌, ◌*◌, ◌<◌, ◌≤◌, ◌^◌, Bool, true, false, ◌||◌, ◌&&◌, ◌==◌, not, cond, ltb, fold, max, map, List, [], ◌∷◌, ◌++◌, length, take, Option, Some, None, Result, Ok, Err, refl, ap, sym, ◌∙◌, subst, arith, append-nil, append_assoc}
+use Rattle.dk_bytes.proofs.BodyLemmas.{IsCodec}
+use Rattle.dk_bytes.proofs.PackingLemmas.{found_packed, packed_again}
 use Rattle.std.specs.List.{AllByRecursion}
 use Rattle.std.specs.Int.{w8, w64, to_le_bytes}
 use Rattle.std.proofs.lemmas.Bool.{eq-eqb, eqb-true, ne_eqb, le-ltb, and_parts, and_from, or_parts}
 use Rattle.dk_values.specs.declared.value.ColType.{ColType}
 use Rattle.dk_values.specs.declared.value.ColType.TheVariants as types
 use Rattle.dk_values.specs.declared.value.Value.{Value}
-use Rattle.dk_bytes.specs.Fields.{Place, behind, bytes_at, number_at}
-use Rattle.dk_bytes.specs.Reading.{◌>>=◌, start, whole, or_fault}
+use Rattle.dk_bytes.specs.Fields.{IsBytes, Place, behind, bytes_at, number_at}
+use Rattle.dk_bytes.specs.Reading.{◌>>=◌, start, whole, or_fault, IsBody}
 use Rattle.dk_bytes.specs.PlainValue.{IsPlain}
-use Rattle.dk_bytes.proofs.NumberLemmas.{IsBytes, IsBytes-take, Takes, Takes-then, bind_ok, bind_at, guard_ok, low_byte, wide8, wide64, bytes_takes, bytes_again, number_takes, number_again, done, ok_is, bytes_front, fault_none, passed_ok}
+use Rattle.dk_bytes.proofs.NumberLemmas.{IsBytes-take, Takes, Takes-then, bind_ok, bind_at, guard_ok, low_byte, wide8, wide64, bytes_takes, bytes_again, number_takes, number_again, done, ok_is, bytes_front, fault_none, passed_ok, some_items}
 use Rattle.dk_bytes.proofs.OutcomeLemmas.{whole_at, whole_ok}
-use Rattle.dk_seg_pack.specs.Bits.{bit_width, byte_count, packed, numbers_in}
+use Rattle.dk_bytes.specs.Bits.{bit_width, byte_count, packed, numbers_in}
 use Rattle.dk_seg_pack.specs.Packed.{rank_of, least, greatest, width_of, differences, half_turned, packed_bytes, IsNumeric, IsPacked, is_numeric, values_of, values_above, differences_at, numbers_at, packed_at}
-use Rattle.dk_seg_pack.proofs.DigitLemmas.{length-digits}
-use Rattle.dk_seg_pack.proofs.WidthLemmas.{width_fits, width_most}
+use Rattle.dk_bytes.proofs.DigitLemmas.{length-digits}
+use Rattle.dk_bytes.proofs.WidthLemmas.{width_fits, width_most}
 use Rattle.dk_seg_pack.proofs.BodyLemmas.{differences_fit, map_length}
 use Rattle.dk_seg_pack.proofs.RankLemmas.{turned_twice, turned_below}
-use Rattle.dk_seg_pack.proofs.RoundTripLemmas.{has_zero, packed_again, found_packed, least_occurs, greatest_difference, values_again, ranks_below, taken_above, least_64, base_least, moved_back}
+use Rattle.dk_seg_pack.proofs.RoundTripLemmas.{has_zero, least_occurs, greatest_difference, values_again, ranks_below, taken_above, least_64, base_least, moved_back}
 
 -- ---- what was written is read again
 
@@ -69,7 +71,7 @@ numbers_again kind count least_bits width text ds values fits most len found e =
     (bind_at {A = ℕ × Place} _ _ (width, record { at = 9; rest = text }) _ (guard_at (ltb 64 width) 8 (width, record { at = 9; rest = text }) fitting)
     (differences_again kind count (half_turned least_bits) width 9 text ds values len found e)))
 
-pub body_again : (kind : ColType) (values : List Value) → IsPacked kind values → packed_at kind (length values) (packed_bytes values) ≡ Ok values
+body_again : (kind : ColType) (values : List Value) → IsPacked kind values → packed_at kind (length values) (packed_bytes values) ≡ Ok values
 unfolding packed_at
 body_again kind values h =
     let ranks : List ℕ = map rank_of values in
@@ -88,11 +90,6 @@ body_again kind values h =
     let some : (length values == 0) ≡ false = ne_eqb _ _ (λ z. omega (arith, h.some)) in
     rw (some, numeric_test kind h.numeric) (whole_at (numbers_at kind (length values) (start (packed_bytes values))) values _ read)
 
-pub body_only : (kind : ColType) (count : ℕ) (bytes : List ℕ) (values : List Value) → length values ≡ count → IsPacked kind values → bytes ≡ packed_bytes values → packed_at kind count bytes ≡ Ok values
-body_only kind count bytes values len h e =
-    let P : ℕ → List ℕ → Type 0 = λ n xs. packed_at kind n xs ≡ Ok values in
-    subst (λ (n : ℕ). P n bytes) len (subst (λ (xs : List ℕ). P (length values) xs) (sym e) (body_again kind values h))
-
 -- ---- what was read is what is written
 
 numeric_fact : (kind : ColType) → not (is_numeric kind) ≡ false → IsNumeric kind
@@ -104,10 +101,6 @@ numeric_fact types.Text e = absurd cc
 passed_some : {A : Type 0} (b : Bool) (o : Option A) (y : A) → cond b o None ≡ Some y → (b ≡ true) × (o ≡ Some y)
 passed_some true o y e = (refl, e)
 passed_some false o y e = absurd cc
-
-pub some_items : (count n : ℕ) → n ≡ count → (count == 0) ≡ false → 0 < n
-some_items zero n e f = absurd cc
-some_items (suc count) n e f = omega arith
 
 -- the differences that were read, from which bytes, and for which values
 record IsTaken (kind : ColType) (count base width : ℕ) (text : List ℕ) (values : List Value) : Type 0 where
@@ -190,7 +183,8 @@ parts_are kind count base width text values below fits len t =
     let count_same : length values ≡ count = sym (map_length rank_of values) ∙ ap length above.ranks ∙ map_length (λ d. base + d) t.ds ∙ f.1 in
     (count_same, above.plain, least_is, width_same, ap (packed width) same ∙ f.0)
 
-pub body_taken : (kind : ColType) (count : ℕ) (bytes : List ℕ) (values : List Value) → IsBytes bytes → packed_at kind count bytes ≡ Ok values → (length values ≡ count) × IsPacked kind values × (bytes ≡ packed_bytes values)
+body_taken : (kind : ColType) (count : ℕ) (bytes : List ℕ) (values : List Value) → IsBytes bytes → packed_at kind count bytes ≡ Ok values
+    → IsBody (IsPacked kind) packed_bytes count bytes values
 unfolding packed_at
 body_taken kind count bytes values fits e =
     let p = passed_ok ((count == 0) || not (is_numeric kind)) 0 (whole (numbers_at kind count (start bytes))) values e in
@@ -207,4 +201,11 @@ body_taken kind count bytes values fits e =
     ∙ ap (λ (w : ℕ). to_le_bytes w64 n.base ++ (w ∷ packed w (differences (map rank_of values)))) q.3
     ∙ ap (λ (rest : List ℕ). to_le_bytes w64 n.base ++ (n.width ∷ rest)) q.4 in
     let some : 0 < length values = some_items count (length values) q.0 tests.0 in
-    (q.0, record { numeric = numeric_fact kind tests.1; some = some; plain = q.1 }, spelled ∙ append_assoc (to_le_bytes w64 n.base) (n.width ∷ []) d.text ∙ sym body)
+    record {
+      total = q.0;
+      lawful = record { numeric = numeric_fact kind tests.1; some = some; plain = q.1 };
+      spelled = spelled ∙ append_assoc (to_le_bytes w64 n.base) (n.width ∷ []) d.text ∙ sym body;
+    }
+
+pub packed_codec : (kind : ColType) → IsCodec (packed_at kind) (IsPacked kind) packed_bytes
+packed_codec kind = record { takes = λ count bytes values fits small e. body_taken kind count bytes values fits e; again = body_again kind }

@@ -1,7 +1,3 @@
-pub mod WordLemmas
-pub mod DigitLemmas
-pub mod PackingLemmas
-pub mod WidthLemmas
 pub mod BodyLemmas
 pub mod RankLemmas
 pub mod RoundTripLemmas

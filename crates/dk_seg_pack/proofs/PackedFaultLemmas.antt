@@ -6,7 +6,7 @@ use Rattle.dk_values.specs.declared.value.Value.{Value}
 use Rattle.dk_bytes.specs.Fields.{Place, bytes_at, number_at}
 use Rattle.dk_bytes.specs.Reading.{◌>>=◌, start, whole, or_fault}
 use Rattle.dk_bytes.proofs.FaultPlaceLemmas.{end_of, Bounded, FailsBy, Within, Inside, bind_bounded, guard_bounded, bytes_within, number_within, whole_bounded, fault_bounded}
-use Rattle.dk_seg_pack.specs.Bits.{byte_count, numbers_in}
+use Rattle.dk_bytes.specs.Bits.{byte_count, numbers_in}
 use Rattle.dk_seg_pack.specs.Packed.{is_numeric, half_turned, values_of, differences_at, numbers_at, packed_at}
 
 differences_within : (end : ℕ) (kind : ColType) (count base width : ℕ) (p : Place) → end_of p ≤ end → Within end (differences_at kind count base width p)

@@ -1,5 +1,6 @@
 -- A value and its rank.
 use Rattle.std.proofs.Common.{◌≡◌, ℕ, ℤ, pos, negsuc, ◌+◌, ◌-◌, ◌<◌, ◌≤◌, ◌^◌, ◌&&◌, Bool, true, false, cond, ltb, leb, eqb, Some, None, refl, ap, sym, subst, arith, inl, inr}
+use Rattle.dk_bytes.proofs.NumberLemmas.{chosen}
 use Rattle.std.specs.Prelude.{FitsSigned}
 use Rattle.std.specs.Int.{w32, w64}
 use Rattle.std.proofs.lemmas.Bool.{ltb-true, leb-true, lt-ltb, le-ltb, le-leb, eqb-true, and_parts, and_from, cases_lt}
@@ -73,10 +74,6 @@ int_fits r h k =
       | inl lt ↦ subst P (sym (low_number r lt)) (record { sfits = omega arith }, omega arith)
       | inr le ↦ subst P (sym (high_number r le)) (record { sfits = omega arith }, omega arith)
     ]
-
-pub chosen : {A : Type 0} (b : Bool) (x y : A) → cond b (Some x) None ≡ Some y → (b ≡ true) × (x ≡ y)
-chosen true x y e = (refl, cc)
-chosen false x y e = absurd cc
 
 bool_taken : (r : ℕ) (first second : Bool) (value : Value) → first ≡ eqb r (2 ^ 63) → second ≡ eqb r (2 ^ 63 + 1) → cond first (Some (values.Bool false)) (cond second (Some (values.Bool true)) None) ≡ Some value → HasRank types.Bool value r
 bool_taken r true second value f g e =

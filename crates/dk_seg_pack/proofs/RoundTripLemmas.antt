@@ -1,4 +1,6 @@
 -- What was written is read again, and what was read is what is written.
+use Rattle.dk_bytes.specs.Fields.{IsBytes}
+use Rattle.dk_bytes.proofs.NumberLemmas.{chosen}
 use Rattle.std.proofs.Common.{◌≡◌, ℕ, suc, ◌+◌, ◌-◌, ◌*◌, ◌/◌, ◌%◌, ◌<◌, ◌≤◌, ◌^◌, Bool, true, false, ◌||◌, ◌==◌, min, max, fold, map, List, [], ◌∷◌, length, Option, Some, None, refl, ap, sym, ◌∙◌, subst, arith, inl, inr, ◌⊎◌}
 use Rattle.std.specs.List.{AllByRecursion, list_any}
 use Rattle.std.specs.Simd.Lanes.{number_l as number, digits_l as digits}
@@ -8,44 +10,10 @@ use Rattle.std.proofs.lemmas.Nat.{div-add-mod'}
 use Rattle.dk_values.specs.declared.value.ColType.{ColType}
 use Rattle.dk_values.specs.declared.value.Value.{Value}
 use Rattle.dk_bytes.specs.PlainValue.{IsPlain}
-use Rattle.dk_bytes.proofs.NumberLemmas.{IsBytes}
-use Rattle.dk_seg_pack.specs.Bits.{byte_count, packed, unpacked, numbers_in}
+use Rattle.dk_bytes.specs.Bits.{byte_count, packed, unpacked, numbers_in}
 use Rattle.dk_seg_pack.specs.Packed.{rank_of, value_of_rank, least, greatest, differences, with_value, values_above, IsNumeric}
-use Rattle.dk_seg_pack.proofs.DigitLemmas.{length-digits, number-digits, digits-number, number_below}
-use Rattle.dk_seg_pack.proofs.RankLemmas.{chosen, rank_below, value_again, value_taken}
-
--- so many bits lie in so many bytes
-enough_bytes : (bits : ℕ) → bits ≤ 8 * byte_count bits
-enough_bytes bits = omega arith
-
--- packed numbers are found again
-pub packed_again : (width : ℕ) (ds : List ℕ) → AllByRecursion (λ d. d < 2 ^ width) ds → numbers_in width (length ds) (packed width ds) ≡ Some ds
-packed_again width ds h =
-    let bits : ℕ = width * length ds in
-    let x : ℕ = number (2 ^ width) ds in
-    let below : x < 2 ^ bits = number_below width ds h in
-    let room : 2 ^ bits ≤ 2 ^ (8 * byte_count bits) = pow-le-pow_right {n = 2} (omega arith) (enough_bytes bits) in
-    let same : number 256 (packed width ds) ≡ x = number-digits 8 (byte_count bits) x ∙ mod-eq_of_lt (omega arith) in
-    let none : x / 2 ^ bits ≡ 0 = div-eq_of_lt below in
-    rw (same, none) (ap (λ (xs : List ℕ). Some xs) (digits-number width ds h))
-
-byte_parts : (bytes : List ℕ) → IsBytes bytes → AllByRecursion (λ b. b < 2 ^ 8) bytes
-byte_parts [] h = tt
-byte_parts (b ∷ bytes) h = (h 0, byte_parts bytes (λ i. h (suc i)))
-
--- bytes are those of the numbers that were found in them
-pub found_packed : (width n : ℕ) (bytes ds : List ℕ) → IsBytes bytes → length bytes ≡ byte_count (width * n) → numbers_in width n bytes ≡ Some ds → (packed width ds ≡ bytes) × (length ds ≡ n)
-found_packed width n bytes ds h len e =
-    let bits : ℕ = width * n in
-    let x : ℕ = number 256 bytes in
-    let c = chosen (x / 2 ^ bits == 0) (unpacked width n bytes) ds e in
-    let none : x / 2 ^ bits ≡ 0 = eqb-true (x / 2 ^ bits) 0 c.0 in
-    let plus : x % 2 ^ bits ≡ 0 * 2 ^ bits + x % 2 ^ bits = omega arith in
-    let all : x % 2 ^ bits ≡ x = plus ∙ ap (λ (q : ℕ). q * 2 ^ bits + x % 2 ^ bits) (sym none) ∙ div-add-mod' x (2 ^ bits) in
-    let same : number (2 ^ width) ds ≡ x = ap (number (2 ^ width)) (sym c.1) ∙ number-digits width n x ∙ all in
-    let count : length ds ≡ n = ap length (sym c.1) ∙ length-digits (2 ^ width) n x in
-    let back : digits 256 (length bytes) x ≡ bytes = digits-number 8 bytes (byte_parts bytes h) in
-    (rw (count, same, ← len) back, count)
+use Rattle.dk_bytes.proofs.DigitLemmas.{length-digits, number-digits, digits-number, number_below}
+use Rattle.dk_seg_pack.proofs.RankLemmas.{rank_below, value_again, value_taken}
 
 -- the test whether one is 0
 abbrev pub has_zero : List ℕ → Bool

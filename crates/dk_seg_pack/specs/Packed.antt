@@ -9,7 +9,7 @@ use Rattle.dk_values.specs.declared.value.Value.TheVariants as values
 use Rattle.dk_bytes.specs.Fields.{Place, bytes_at, number_at}
 use Rattle.dk_bytes.specs.PlainValue.{IsPlain, bit_byte}
 use Rattle.dk_bytes.specs.Reading.{◌>>=◌, start, whole, or_fault}
-use Rattle.dk_seg_pack.specs.Bits.{bit_width, byte_count, packed, numbers_in}
+use Rattle.dk_bytes.specs.Bits.{bit_width, byte_count, packed, numbers_in}
 
 -- how far a number stands above the least one of 64 bits
 abbrev pub rank : ℤ → ℕ

@@ -4,15 +4,15 @@
 ghost use Rattle.std.specs.Prelude.{◌≡◌, ◌++◌, ◌↔◌, ◌≤◌, ◌<◌, ◌^◌, ◌+◌, ◌-◌, ◌*◌, ◌==◌, ◌&&◌, List, length, take, Ok, map, option_map, not, IsSome, IsTrue, IfSome, IfOk, OnOk, OnErr};
 ghost use Rattle.dk_values.specs.declared.value.Value.{Value};
 ghost use Rattle.dk_bytes.specs.PlainValue.{present};
-ghost use Rattle.dk_bytes.specs.Reading.{Gives};
-ghost use Rattle.dk_seg_pack.specs.Bits.{bit_width};
+ghost use Rattle.dk_bytes.specs.Reading.{Gives, IsBody};
+ghost use Rattle.dk_bytes.specs.Bits.{bit_width};
 ghost use Rattle.std.specs.List.{list_any};
 ghost use Rattle.dk_seg_pack.specs.Packed.{value_of_rank, rank_of, least, greatest, differences, width_of, body_of, packed_bytes, IsPacked, is_numeric, values_above, values_of, differences_at, numbers_at, packed_at};
 
-use crate::numbers::{bit_width, byte_count, pack, take_packed, unpack};
 use crate::rank::{half_turned, rank_of, value_of_rank};
 use dk_bytes::{
-    Cursor, SegError, are_plain, cut_if_failed, is_present, present_count, put_u8, put_u64,
+    Cursor, SegError, are_plain, bit_width, byte_count, cut_if_failed, is_present, pack,
+    present_count, put_u8, put_u64, take_packed, unpack,
 };
 use dk_values::{ColType, OutOfMemory, Value};
 use std::alloc::Global;
@@ -128,10 +128,9 @@ pub fn decode(
     kind: ColType,
     count: usize,
 ) -> Result<Vec<Value>, SegError>
-    ensures found { IfOk result (λ v. (length v.items ≡ count) × IsPacked kind v.items
-        × (bytes.now ≡ packed_bytes v.items)) }
-    ensures only { (values : List Value) → length values ≡ count → IsPacked kind values
-        → bytes.now ≡ packed_bytes values → Gives (λ v. v.items) result (Ok values) }
+    ensures found { IfOk result (λ v. IsBody (IsPacked kind) packed_bytes count bytes.now v.items) }
+    ensures only { (values : List Value) → IsBody (IsPacked kind) packed_bytes count bytes.now values
+        → Gives (λ v. v.items) result (Ok values) }
     ensures place { Gives (λ v. v.items) result (packed_at kind count bytes.now) }
 {
     read(alloc, bytes, kind, count)
@@ -147,9 +146,7 @@ fn read(alloc: Global, bytes: &[u8], kind: ColType, count: usize) -> Result<Vec<
     }
     let mut cursor = Cursor::new(bytes);
     let values = read_numbers(alloc, &mut cursor, kind, count)?;
-    if cursor.left() > 0 {
-        return Err(SegError::Malformed { at: cursor.at() });
-    }
+    cursor.finish()?;
     Ok(values)
 }
 

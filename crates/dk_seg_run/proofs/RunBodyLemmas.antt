@@ -7,10 +7,11 @@ use Rattle.std.specs.Int.{w16, w32, to_le_bytes}
 use Rattle.dk_values.specs.declared.value.ColType.{ColType}
 use Rattle.dk_values.specs.declared.value.Value.{Value}
 use Rattle.dk_seg_run.specs.declared.run_length.Run.{Run}
-use Rattle.dk_bytes.specs.Fields.{Place, number_at}
-use Rattle.dk_bytes.specs.Reading.{◌>>=◌, start}
+use Rattle.dk_bytes.specs.Fields.{IsBytes, Place, number_at}
+use Rattle.dk_bytes.specs.Reading.{◌>>=◌, start, IsBody}
 use Rattle.dk_bytes.specs.PlainValue.{plain_bytes, value_at}
-use Rattle.dk_bytes.proofs.NumberLemmas.{IsBytes, Takes, Takes-then, bind_ok, guard_ok, chosen_ok, wide16, wide32, number_takes, number_again, ok_is}
+use Rattle.dk_bytes.proofs.BodyLemmas.{IsCodec}
+use Rattle.dk_bytes.proofs.NumberLemmas.{Takes, Takes-then, bind_ok, guard_ok, chosen_ok, wide16, wide32, number_takes, number_again, ok_is}
 use Rattle.dk_bytes.proofs.PlainValueLemmas.{value_takes, value_again, after}
 use Rattle.dk_seg_run.specs.RunLength.{run_of, runs_of, expanded, IsRun, HasRuns, run_bytes, run_length_bytes, repeats, counted, run_at, runs_at, closed, run_length_at}
 use Rattle.dk_seg_run.proofs.RunLemmas.{AreRuns, AreRuns-All, All-AreRuns, apart-runs_of, runs_of-expanded, expanded-runs_of}
@@ -123,19 +124,14 @@ closed_ok count runs values e =
     chosen true d r y e = (refl, e)
     chosen false d r y e = absurd cc
 
--- the bytes are the body of so many values
-pub record IsBody (kind : ColType) (count : ℕ) (bytes : List ℕ) (values : List Value) : Type 0 where
-  pub total : length values ≡ count
-  pub runs : HasRuns kind values
-  pub told : bytes ≡ run_length_bytes values
-
 expanded-some : (kind : ColType) (last : Option Value) (runs : List Run) → AreRuns kind last runs → 0 < length runs → 0 < length (expanded runs)
 expanded-some kind last [] h lt = absurd (omega arith)
 expanded-some kind last (run ∷ runs) h lt = omega (arith, h.0.some, length-append (replicate run.count run.value) (expanded runs), length-replicate run.count run.value)
 
-pub body_found : (kind : ColType) (count : ℕ) (bytes : List ℕ) (values : List Value) → IsBytes bytes → run_length_at kind count bytes ≡ Ok values → IsBody kind count bytes values
+body_taken : (kind : ColType) (count : ℕ) (bytes : List ℕ) (values : List Value) → IsBytes bytes → run_length_at kind count bytes ≡ Ok values
+    → IsBody (HasRuns kind) run_length_bytes count bytes values
 unfolding run_length_at
-body_found kind count bytes values fits e =
+body_taken kind count bytes values fits e =
     let b = bind_ok (number_at w32 (start bytes)) (λ n. cond (eqb n.0 0) (Err 0) (Ok n) >>= λ some. runs_at kind None some.0 some.1 >>= λ runs. closed count runs) values e in
     let n = b.0 in
     let t = number_takes w32 wide32 (start bytes) n fits b.1 in
@@ -149,19 +145,19 @@ body_found kind count bytes values fits e =
     ((Takes-then (start bytes) n.1 f.0.1 (to_le_bytes w32 n.0) (flat_map run_bytes f.0.0) t.0 u.takes).passes.rest ∙ ap (λ (l : List ℕ). (to_le_bytes w32 n.0 ++ flat_map run_bytes f.0.0) ++ l) c.used ∙ append-nil _)
     values c.told
   where
-    body_of : (kind : ColType) (count : ℕ) (bytes : List ℕ) (n : ℕ) (runs : List Run) → 0 < n → n < 2 ^ 32 → AreRuns kind None runs → length runs ≡ n → length (expanded runs) ≡ count → bytes ≡ to_le_bytes w32 n ++ flat_map run_bytes runs → (values : List Value) → expanded runs ≡ values → IsBody kind count bytes values
+    body_of : (kind : ColType) (count : ℕ) (bytes : List ℕ) (n : ℕ) (runs : List Run) → 0 < n → n < 2 ^ 32 → AreRuns kind None runs → length runs ≡ n → length (expanded runs) ≡ count → bytes ≡ to_le_bytes w32 n ++ flat_map run_bytes runs → (values : List Value) → expanded runs ≡ values → IsBody (HasRuns kind) run_length_bytes count bytes values
     body_of kind count bytes n runs some lt fits len total e values v =
         let back : runs_of (expanded runs) ≡ runs = runs_of-expanded kind None runs fits in
-        let whole : IsBody kind count bytes (expanded runs) = record {
+        let whole : IsBody (HasRuns kind) run_length_bytes count bytes (expanded runs) = record {
           total = total;
-          runs = record {
+          lawful = record {
             some = expanded-some kind None runs fits (omega arith);
             runs = subst (λ (rs : List Run). AllByRecursion (IsRun kind) rs) (sym back) (AreRuns-All kind None runs fits);
             count = subst (λ (rs : List Run). length rs < 2 ^ 32) (sym back) (omega arith);
           };
-          told = subst (λ (rs : List Run). bytes ≡ to_le_bytes w32 (length rs) ++ flat_map run_bytes rs) (sym back) (subst (λ (m : ℕ). bytes ≡ to_le_bytes w32 m ++ flat_map run_bytes runs) (sym len) e);
+          spelled = subst (λ (rs : List Run). bytes ≡ to_le_bytes w32 (length rs) ++ flat_map run_bytes rs) (sym back) (subst (λ (m : ℕ). bytes ≡ to_le_bytes w32 m ++ flat_map run_bytes runs) (sym len) e);
         } in
-        subst (λ (vs : List Value). IsBody kind count bytes vs) v whole
+        subst (λ (vs : List Value). IsBody (HasRuns kind) run_length_bytes count bytes vs) v whole
 
 some-runs : (runs : List Run) → 0 < length (expanded runs) → 0 < length runs
 some-runs [] h = h
@@ -187,7 +183,5 @@ body_read kind values h =
     = subst (λ (l : List ℕ). runs_at kind None (length (runs_of values)) (record { at = 0 + 4; rest = l }) ≡ Ok (runs, after (0 + 4) text [])) (append-nil text) (runs_again kind None (runs_of values) [] (0 + 4) fits) in
     rw (number_again w32 wide32 (length (runs_of values)) text 0 h.count, nonzero (length (runs_of values)) some, read) (closed_at (runs_of values) values (0 + 4 + length text) (expanded-runs_of values))
 
-pub body_only : (kind : ColType) (count : ℕ) (bytes : List ℕ) (values : List Value) → length values ≡ count → HasRuns kind values → bytes ≡ run_length_bytes values → run_length_at kind count bytes ≡ Ok values
-body_only kind count bytes values len h e =
-    let P : ℕ → List ℕ → Type 0 = λ n l. run_length_at kind n l ≡ Ok values in
-    subst (λ (n : ℕ). P n bytes) len (subst (λ (l : List ℕ). P (length values) l) (sym e) (body_read kind values h))
+pub run_length_codec : (kind : ColType) → IsCodec (run_length_at kind) (HasRuns kind) run_length_bytes
+run_length_codec kind = record { takes = λ count bytes values fits small e. body_taken kind count bytes values fits e; again = body_read kind }

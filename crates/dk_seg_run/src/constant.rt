@@ -4,7 +4,7 @@ ghost use Rattle.std.specs.Prelude.{◌≡◌, ◌++◌, ◌↔◌, List, length
 ghost use Rattle.std.specs.List.{AllByRecursion};
 ghost use Rattle.dk_values.specs.declared.value.Value.{Value};
 ghost use Rattle.dk_bytes.specs.PlainValue.{present};
-ghost use Rattle.dk_bytes.specs.Reading.{Gives};
+ghost use Rattle.dk_bytes.specs.Reading.{Gives, IsBody};
 ghost use Rattle.dk_seg_run.specs.Constant.{IsConstant, constant_bytes, constant_at};
 
 use crate::copies::push_copies;
@@ -57,10 +57,9 @@ pub fn decode(
     kind: ColType,
     count: usize,
 ) -> Result<Vec<Value>, SegError>
-    ensures found { IfOk result (λ v. (length v.items ≡ count) × IsConstant kind v.items
-        × (bytes.now ≡ constant_bytes v.items)) }
-    ensures only { (values : List Value) → length values ≡ count → IsConstant kind values
-        → bytes.now ≡ constant_bytes values → Gives (λ v. v.items) result (Ok values) }
+    ensures found { IfOk result (λ v. IsBody (IsConstant kind) constant_bytes count bytes.now v.items) }
+    ensures only { (values : List Value) → IsBody (IsConstant kind) constant_bytes count bytes.now values
+        → Gives (λ v. v.items) result (Ok values) }
     ensures place { Gives (λ v. v.items) result (constant_at kind count bytes.now) }
 {
     read(alloc, bytes, kind, count)
@@ -76,9 +75,7 @@ fn read(alloc: Global, bytes: &[u8], kind: ColType, count: usize) -> Result<Vec<
     }
     let mut cursor = Cursor::new(bytes);
     let value = read_value(alloc, &mut cursor, kind)?;
-    if cursor.left() > 0 {
-        return Err(SegError::Malformed { at: cursor.at() });
-    }
+    cursor.finish()?;
     let mut values = Vec::with_capacity(alloc, count)?;
     push_copies(alloc, &mut values, &value, count)?;
     Ok(values)

@@ -4,7 +4,7 @@
 ghost use Rattle.std.specs.Prelude.{◌≡◌, ◌+◌, ◌++◌, ◌<◌, ◌^◌, ◌≤◌, ◌↔◌, ℕ, List, ◌∷◌, Option, None, length, take, drop, Ok, IsSome, IsOk, IsTrue, IfSome, IfOk, OnOk, OnErr, vec_len};
 ghost use Rattle.std.specs.List.{AllByRecursion, flat_map, prefix_len};
 ghost use Rattle.dk_values.specs.declared.value.Value.{Value};
-ghost use Rattle.dk_bytes.specs.Reading.{Gives};
+ghost use Rattle.dk_bytes.specs.Reading.{Gives, IsBody};
 ghost use Rattle.dk_bytes.specs.PlainValue.{present};
 ghost use Rattle.dk_seg_run.specs.RunLength.{passes, IsRun, HasRuns, run_of, runs_of, run_bytes, run_length_bytes, run_length_at, run_at, runs_at, expanded, last_of, repeats};
 
@@ -138,10 +138,9 @@ pub fn decode(
     kind: ColType,
     count: usize,
 ) -> Result<Vec<Value>, SegError>
-    ensures found { IfOk result (λ v. (length v.items ≡ count) × HasRuns kind v.items
-        × (bytes.now ≡ run_length_bytes v.items)) }
-    ensures only { (values : List Value) → length values ≡ count → HasRuns kind values
-        → bytes.now ≡ run_length_bytes values → Gives (λ v. v.items) result (Ok values) }
+    ensures found { IfOk result (λ v. IsBody (HasRuns kind) run_length_bytes count bytes.now v.items) }
+    ensures only { (values : List Value) → IsBody (HasRuns kind) run_length_bytes count bytes.now values
+        → Gives (λ v. v.items) result (Ok values) }
     ensures place { Gives (λ v. v.items) result (run_length_at kind count bytes.now) }
 {
     read(alloc, bytes, kind, count)
@@ -163,9 +162,7 @@ fn read(alloc: Global, bytes: &[u8], kind: ColType, count: usize) -> Result<Vec<
             at: cursor.at() - 2,
         });
     }
-    if cursor.left() > 0 {
-        return Err(SegError::Malformed { at: cursor.at() });
-    }
+    cursor.finish()?;
     Ok(expand(alloc, runs.as_slice())?)
 }
 

@@ -2,7 +2,7 @@
 use Rattle.std.proofs.Common.{◌≡◌, ℕ, ◌-◌, ◌<◌, ◌≤◌, ◌^◌, Bool, true, false, cond, ◌||◌, bytes_eq, List, [], ◌∷◌, ◌++◌, length, refl, sym, ap, subst, ◌∙◌, arith, length-append}
 use Rattle.std.specs.List.{All, AllByRecursion}
 use Rattle.std.proofs.lemmas.List.Elements.{All-from_recursion}
-use Rattle.dk_seg_pack.proofs.WidthLemmas.{width_fits}
+use Rattle.dk_bytes.proofs.WidthLemmas.{width_fits}
 use Rattle.dk_seg_text.specs.Dictionary.{is_entry, with_entry, code_of, entries_behind, entries_of, codes_behind, code_width}
 
 -- a text that is an entry has the code of one, and another has the next code

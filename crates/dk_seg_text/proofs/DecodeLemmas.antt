@@ -1,5 +1,6 @@
 -- What was read is what is written.
 use Rattle.std.proofs.Common.{◌≡◌, ℕ, zero, suc, ◌+◌, ◌*◌, ◌<◌, ◌≤◌, ◌^◌, ◌==◌, Bool, true, false, cond, ◌||◌, not, ltb, bytes_eq, List, [], ◌∷◌, ◌++◌, map, length, take, get_or, Option, Some, None, Result, Ok, Err, refl, sym, ap, subst, ◌∙◌, append_assoc, append-nil, arith, length-append, inl, inr}
+use Rattle.dk_bytes.proofs.PackingLemmas.{found_packed}
 use Rattle.std.specs.List.{AllByRecursion, flat_map}
 use Rattle.std.specs.Int.{w8, w16, to_le_bytes}
 use Rattle.std.proofs.lemmas.Bool.{cases_lt, ltb-false, eqb-true, eqb-false, or_parts}
@@ -9,19 +10,16 @@ use Rattle.dk_values.specs.declared.value.ColType.{ColType}
 use Rattle.dk_values.specs.declared.value.ColType.TheVariants as types
 use Rattle.dk_values.specs.declared.value.Value.{Value}
 use Rattle.dk_values.specs.declared.value.Value.TheVariants as variants
-use Rattle.dk_bytes.specs.Fields.{Place, behind, bytes_at, number_at}
-use Rattle.dk_bytes.specs.Reading.{◌>>=◌, start, whole, or_fault}
+use Rattle.dk_bytes.specs.Fields.{IsBytes, Place, behind, bytes_at, number_at}
+use Rattle.dk_bytes.specs.Reading.{◌>>=◌, start, whole, or_fault, IsBody}
 use Rattle.dk_bytes.specs.PlainValue.{IsPlain, plain_bytes, text_at}
-use Rattle.dk_bytes.proofs.NumberLemmas.{IsBytes, IsBytes-take, Takes, Takes-then, bind_ok, guard_ok, chosen_ok, low_byte, wide8, wide16, bytes_takes, number_takes, done, ok_is, bytes_front, fault_none, passed_ok}
+use Rattle.dk_bytes.proofs.NumberLemmas.{IsBytes-take, Takes, Takes-then, bind_ok, guard_ok, chosen_ok, low_byte, wide8, wide16, bytes_takes, number_takes, done, ok_is, bytes_front, fault_none, passed_ok, chosen, some_items}
 use Rattle.dk_bytes.proofs.PlainValueLemmas.{value_takes}
 use Rattle.dk_bytes.proofs.OutcomeLemmas.{whole_ok}
-use Rattle.dk_seg_pack.specs.Bits.{byte_count, numbers_in}
-use Rattle.dk_seg_pack.proofs.RankLemmas.{chosen}
-use Rattle.dk_seg_pack.proofs.RoundTripLemmas.{found_packed}
+use Rattle.dk_bytes.specs.Bits.{byte_count, numbers_in}
 use Rattle.dk_seg_text.specs.Dictionary.{text_of, is_entry, with_entry, code_of, entries_behind, entries_of, codes_behind, code_width, entry_bytes, body_with, dictionary_bytes, IsDictionary, entry_at, entries_at, used_behind, are_all_used, text_with, texts_with, codes_at, width_at, texts_at, is_text, dictionary_at}
 use Rattle.dk_seg_text.proofs.CodeLemmas.{place_of}
 use Rattle.dk_seg_text.proofs.EntryLemmas.{IsText, AreNew, front_item, next_item}
-use Rattle.dk_seg_pack.proofs.DecodeLemmas.{some_items}
 
 -- ---- entries of which none stands twice
 
@@ -310,13 +308,20 @@ text_fact types.Bool e = absurd cc
 text_fact types.Int e = absurd cc
 text_fact types.Big e = absurd cc
 
-pub body_found : (kind : ColType) (count : ℕ) (bytes : List ℕ) (values : List Value) → IsBytes bytes → dictionary_at kind count bytes ≡ Ok values → (length values ≡ count) × IsDictionary kind values × (bytes ≡ dictionary_bytes values)
+pub body_taken : (kind : ColType) (count : ℕ) (bytes : List ℕ) (values : List Value) → IsBytes bytes → dictionary_at kind count bytes ≡ Ok values
+    → IsBody (IsDictionary kind) dictionary_bytes count bytes values
 unfolding dictionary_at
-body_found kind count bytes values fits e =
+body_taken kind count bytes values fits e =
     let p = passed_ok ((count == 0) || not (is_text kind)) 0 (whole (texts_at count (start bytes))) values e in
     let tests = or_parts (count == 0) (not (is_text kind)) p.0 in
     let w = whole_ok (texts_at count (start bytes)) values p.1 in
     let t = texts_taken count (start bytes) (values, w.behind) fits w.told in
     let f = fields_are count (start bytes) w.behind values t in
     let spelled : bytes ≡ dictionary_bytes values = f.3.passes.rest ∙ ap (λ (rest : List ℕ). dictionary_bytes values ++ rest) w.used ∙ append-nil (dictionary_bytes values) in
-    (f.0, record { text = text_fact kind tests.1; some = some_items count (length values) f.0 tests.0; plain = f.1; few = f.2 }, spelled)
+    let lawful : IsDictionary kind values = record {
+      text = text_fact kind tests.1;
+      some = some_items count (length values) f.0 tests.0;
+      plain = f.1;
+      few = f.2;
+    } in
+    record { total = f.0; lawful = lawful; spelled = spelled }

@@ -1,10 +1,11 @@
 -- Entries that come one after the other, none of them twice, and what codes say of them.
 use Rattle.std.proofs.Common.{◌≡◌, ℕ, zero, suc, ◌+◌, ◌<◌, ◌^◌, ◌==◌, Bool, true, false, ◌||◌, ltb, bytes_eq, IsUtf8, List, [], ◌∷◌, ◌++◌, map, length, get_or, Some, refl, sym, ap, subst, ◌∙◌, append_assoc, append-nil, arith, length-append}
 use Rattle.std.specs.List.{AllByRecursion}
+use Rattle.std.specs.Prelude.{slice_index_or}
 use Rattle.std.proofs.lemmas.Bool.{le-ltb, eq-eqb, ne_eqb}
 use Rattle.std.proofs.lemmas.Slice.Eq.{bytes_eq-Decides}
 use Rattle.dk_values.specs.declared.value.Value.TheVariants as variants
-use Rattle.dk_seg_text.specs.Dictionary.{is_entry, with_entry, code_of, entries_behind, codes_behind, used_behind, text_with}
+use Rattle.dk_seg_text.specs.Dictionary.{IsShort, is_entry, with_entry, code_of, entries_behind, codes_behind, used_behind, text_with}
 use Rattle.dk_seg_text.proofs.CodeLemmas.{place_of, code_below}
 
 -- a text that may be stored
@@ -95,3 +96,14 @@ texts_back entries (t ∷ texts) h =
     let item : get_or all (code_of entries t) [] ≡ t =
     ap (λ (es : List (List ℕ)). get_or es (code_of entries t) []) x.is ∙ front_item (with_entry entries t) x.more (code_of entries t) below ∙ own_item entries t in
     rw (item, texts_back (with_entry entries t) texts h.1) refl
+
+-- entries that are new one after the other are short
+pub new_short : (entries more : List (List ℕ)) → AreNew entries more → AllByRecursion IsShort more
+new_short entries [] h = tt
+new_short entries (t ∷ more) h = (h.1.0, new_short (entries ++ t ∷ []) more h.2)
+
+-- and so is each of them, and what stands for none
+pub short_at : (entries : List (List ℕ)) (i : ℕ) → AllByRecursion IsShort entries → IsShort (slice_index_or entries i [])
+short_at [] i h = omega arith
+short_at (t ∷ entries) zero h = h.0
+short_at (t ∷ entries) (suc i) h = short_at entries i h.1

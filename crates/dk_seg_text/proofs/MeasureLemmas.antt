@@ -11,8 +11,8 @@ use Rattle.dk_values.specs.declared.value.Value.{Value}
 use Rattle.dk_values.specs.declared.value.ColType.TheVariants as types
 use Rattle.dk_values.specs.declared.value.Value.TheVariants as variants
 use Rattle.dk_bytes.specs.PlainValue.{IsPlain, is_present, present}
-use Rattle.dk_seg_pack.specs.Bits.{byte_count, packed}
-use Rattle.dk_seg_pack.proofs.DigitLemmas.{length-digits}
+use Rattle.dk_bytes.specs.Bits.{byte_count, packed}
+use Rattle.dk_bytes.proofs.DigitLemmas.{length-digits}
 use Rattle.dk_seg_text.specs.Dictionary.{text_of, is_entry, with_entry, entries_behind, entries_of, codes_behind, code_width, entry_bytes, body_with, dictionary_bytes}
 use Rattle.dk_seg_text.proofs.TextLemmas.{seen_any}
 use Rattle.dk_seg_text.proofs.CodeLemmas.{grown}
@@ -39,18 +39,12 @@ dictionary_len values =
     let h = length-append (flat_map entry_bytes entries) (width ∷ packed width codes) in
     omega (arith, e, g, h)
 
-short_number : (n : ℕ) → to_le_bytes w16 (n % 65536) ≡ to_le_bytes w16 n
-short_number n =
-    let a : n % 65536 % 256 ≡ n % 256 = omega arith in
-    let b : n % 65536 / 256 % 256 ≡ n / 256 % 256 = omega arith in
-    rw (a, b) refl
-
 -- the fields of a body, one behind the other
 pub body_joined : (texts entries : List (List ℕ)) (codes : List ℕ) (n n' : ℕ) (out out1 out2 out3 : List ℕ) → entries ≡ entries_of texts → codes ≡ codes_behind [] texts → n ≡ length entries → n' ≡ length entries
-    → out1 ≡ out ++ to_le_bytes w16 (n % 65536) → out2 ≡ out1 ++ flat_map entry_bytes entries → out3 ≡ out2 ++ (code_width n' ∷ packed (code_width n') codes) → out3 ≡ out ++ body_with (entries_of texts) (codes_behind [] texts)
+    → out1 ≡ out ++ to_le_bytes w16 n → out2 ≡ out1 ++ flat_map entry_bytes entries → out3 ≡ out2 ++ (code_width n' ∷ packed (code_width n') codes) → out3 ≡ out ++ body_with (entries_of texts) (codes_behind [] texts)
 body_joined texts entries codes n n' out out1 out2 out3 e f g h p q r =
-    three_joined out (to_le_bytes w16 (n % 65536)) (flat_map entry_bytes entries) (code_width n' ∷ packed (code_width n') codes) out1 out2 out3 p q r
-    ∙ ap (λ (xs : List ℕ). out ++ (xs ++ (flat_map entry_bytes entries ++ (code_width n' ∷ packed (code_width n') codes)))) (short_number n ∙ ap (to_le_bytes w16) g)
+    three_joined out (to_le_bytes w16 n) (flat_map entry_bytes entries) (code_width n' ∷ packed (code_width n') codes) out1 out2 out3 p q r
+    ∙ ap (λ (xs : List ℕ). out ++ (xs ++ (flat_map entry_bytes entries ++ (code_width n' ∷ packed (code_width n') codes)))) (ap (to_le_bytes w16) g)
     ∙ ap (λ (m : ℕ). out ++ (to_le_bytes w16 (length entries) ++ (flat_map entry_bytes entries ++ (code_width m ∷ packed (code_width m) codes)))) h
     ∙ ap (λ (es : List (List ℕ)). out ++ body_with es codes) e
     ∙ ap (λ (cs : List ℕ). out ++ body_with (entries_of texts) cs) f

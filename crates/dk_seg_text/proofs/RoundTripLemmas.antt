@@ -1,5 +1,8 @@
 -- What was written is read again.
 use Rattle.std.proofs.Common.{◌≡◌, ℕ, ◌+◌, ◌-◌, ◌*◌, ◌<◌, ◌≤◌, ◌^◌, ◌==◌, Bool, true, false, cond, List, [], ◌∷◌, ◌++◌, map, length, Option, Some, Result, Ok, Err, refl, sym, ap, subst, ◌∙◌, append_assoc, append-nil, arith, length-append}
+use Rattle.dk_seg_text.proofs.DecodeLemmas.{body_taken}
+use Rattle.dk_bytes.proofs.BodyLemmas.{IsCodec}
+use Rattle.dk_bytes.proofs.PackingLemmas.{packed_again}
 use Rattle.std.specs.List.{AllByRecursion, flat_map}
 use Rattle.std.specs.Int.{w8, w16, to_le_bytes}
 use Rattle.std.proofs.lemmas.Bool.{eq-eqb, ne_eqb}
@@ -13,14 +16,13 @@ use Rattle.dk_bytes.specs.PlainValue.{IsPlain}
 use Rattle.dk_bytes.proofs.NumberLemmas.{bind_at, low_byte, wide8, wide16, bytes_again, number_again}
 use Rattle.dk_bytes.proofs.PlainValueLemmas.{value_again}
 use Rattle.dk_bytes.proofs.OutcomeLemmas.{whole_at}
-use Rattle.dk_seg_pack.specs.Bits.{byte_count, packed, numbers_in}
-use Rattle.dk_seg_pack.proofs.DigitLemmas.{length-digits}
-use Rattle.dk_seg_pack.proofs.WidthLemmas.{width_fits, width_most}
-use Rattle.dk_seg_pack.proofs.RoundTripLemmas.{packed_again}
-use Rattle.dk_seg_text.specs.Dictionary.{text_of, is_entry, entries_of, codes_behind, code_width, entry_bytes, dictionary_bytes, IsDictionary, entry_at, entries_at, used_behind, are_all_used, text_with, texts_with, codes_at, width_at, texts_at, dictionary_at}
+use Rattle.dk_bytes.specs.Bits.{byte_count, packed, numbers_in}
+use Rattle.dk_bytes.proofs.DigitLemmas.{length-digits}
+use Rattle.dk_bytes.proofs.WidthLemmas.{width_fits, width_most}
+use Rattle.dk_seg_text.specs.Dictionary.{IsShort, text_of, is_entry, entries_of, codes_behind, code_width, entry_bytes, dictionary_bytes, IsDictionary, entry_at, entries_at, used_behind, are_all_used, text_with, texts_with, codes_at, width_at, texts_at, dictionary_at}
 use Rattle.dk_seg_text.proofs.CodeLemmas.{grown, codes_below, fit_width}
 use Rattle.dk_seg_text.proofs.MeasureLemmas.{codes_len, map_length}
-use Rattle.dk_seg_text.proofs.EntryLemmas.{IsText, AreNew, extended, all_used, texts_back}
+use Rattle.dk_seg_text.proofs.EntryLemmas.{IsText, AreNew, extended, all_used, texts_back, new_short}
 
 entry_again : (entries : List (List ℕ)) (t rest : List ℕ) (at : ℕ) → is_entry entries t ≡ false → IsText t → entry_at entries (record { at = at; rest = entry_bytes t ++ rest }) ≡ Ok (entries ++ t ∷ [], record { at = at + length (entry_bytes t); rest = rest })
 unfolding entry_at
@@ -91,7 +93,7 @@ all_texts_with entries codes values used back =
     let test : are_all_used (length entries) (used_behind 0 codes) ≡ true = ap (are_all_used (length entries)) used ∙ eq-eqb (length entries) (length entries) refl in
     rw (test, back) refl
 
-pub body_again : (values : List Value) → IsDictionary types.Text values → dictionary_at types.Text (length values) (dictionary_bytes values) ≡ Ok values
+body_again : (values : List Value) → IsDictionary types.Text values → dictionary_at types.Text (length values) (dictionary_bytes values) ≡ Ok values
 unfolding dictionary_at
 body_again values h =
     let texts : List (List ℕ) = map text_of values in
@@ -112,8 +114,17 @@ body_again values h =
     let some_values : (length values == 0) ≡ false = ne_eqb _ _ (λ z. omega (arith, h.some)) in
     rw some_values (whole_at (texts_at (length values) (start (dictionary_bytes values))) values _ read)
 
-pub body_only : (kind : ColType) (count : ℕ) (bytes : List ℕ) (values : List Value) → length values ≡ count → IsDictionary kind values → bytes ≡ dictionary_bytes values → dictionary_at kind count bytes ≡ Ok values
-body_only kind count bytes values len h e =
-    let P : ColType → ℕ → List ℕ → Type 0 = λ k n xs. dictionary_at k n xs ≡ Ok values in
+typed_again : (kind : ColType) (values : List Value) → IsDictionary kind values → dictionary_at kind (length values) (dictionary_bytes values) ≡ Ok values
+typed_again kind values h =
+    let P : ColType → Type 0 = λ k. dictionary_at k (length values) (dictionary_bytes values) ≡ Ok values in
     let text : IsDictionary types.Text values = record { text = refl; some = h.some; plain = h.plain; few = h.few } in
-    subst (λ (k : ColType). P k count bytes) (sym h.text) (subst (λ (n : ℕ). P types.Text n bytes) len (subst (λ (xs : List ℕ). P types.Text (length values) xs) (sym e) (body_again values text)))
+    subst P (sym h.text) (body_again values text)
+
+-- the entries of texts are short
+pub entries_short : (values : List Value) → AllByRecursion (IsPlain types.Text) values → AllByRecursion IsShort (entries_of (map text_of values))
+entries_short values plain =
+    let x = extended [] (map text_of values) (all_texts values plain) in
+    subst (λ (es : List (List ℕ)). AllByRecursion IsShort es) (sym x.is) (new_short [] x.more x.new)
+
+pub dictionary_codec : (kind : ColType) → IsCodec (dictionary_at kind) (IsDictionary kind) dictionary_bytes
+dictionary_codec kind = record { takes = λ count bytes values fits small e. body_taken kind count bytes values fits e; again = typed_again kind }

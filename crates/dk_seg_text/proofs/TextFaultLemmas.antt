@@ -8,7 +8,7 @@ use Rattle.dk_bytes.specs.Fields.{Place, bytes_at, number_at}
 use Rattle.dk_bytes.specs.PlainValue.{text_at, value_at}
 use Rattle.dk_bytes.specs.Reading.{◌>>=◌, start, whole, or_fault}
 use Rattle.dk_bytes.proofs.FaultPlaceLemmas.{end_of, Bounded, FailsBy, Within, Inside, bind_bounded, chosen_bounded, guard_bounded, bytes_within, number_within, value_within, whole_bounded, fault_bounded}
-use Rattle.dk_seg_pack.specs.Bits.{byte_count, numbers_in}
+use Rattle.dk_bytes.specs.Bits.{byte_count, numbers_in}
 use Rattle.dk_seg_text.specs.Plain.{values_at, plain_at}
 use Rattle.dk_seg_text.specs.Dictionary.{text_of, is_entry, code_width, texts_with, entry_at, entries_at, codes_at, width_at, texts_at, is_text, dictionary_at}
 

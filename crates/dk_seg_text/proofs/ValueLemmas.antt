@@ -1,12 +1,13 @@
 -- Values read one behind the other.
 use Rattle.std.proofs.Common.{◌≡◌, ℕ, zero, suc, ◌+◌, ◌<◌, ◌≤◌, ◌^◌, length, List, [], ◌∷◌, ◌++◌, Result, Ok, Err, refl, sym, ap, subst, ◌∙◌, append_assoc, append-nil, length-append, arith}
+use Rattle.dk_bytes.proofs.BodyLemmas.{IsCodec}
 use Rattle.std.specs.List.{AllByRecursion}
 use Rattle.dk_values.specs.declared.value.ColType.{ColType}
 use Rattle.dk_values.specs.declared.value.Value.{Value}
-use Rattle.dk_bytes.specs.Fields.{Place}
+use Rattle.dk_bytes.specs.Fields.{IsBytes, Place}
 use Rattle.dk_bytes.specs.PlainValue.{IsPlain, plain_bytes, value_at}
-use Rattle.dk_bytes.specs.Reading.{◌>>=◌, start}
-use Rattle.dk_bytes.proofs.NumberLemmas.{IsBytes, Takes, Takes-then, bind_ok, done, ok_is}
+use Rattle.dk_bytes.specs.Reading.{◌>>=◌, start, IsBody}
+use Rattle.dk_bytes.proofs.NumberLemmas.{Takes, Takes-then, bind_ok, done, ok_is}
 use Rattle.dk_bytes.proofs.PlainValueLemmas.{value_takes, value_again}
 use Rattle.dk_bytes.proofs.OutcomeLemmas.{whole_at, whole_ok}
 use Rattle.dk_seg_text.specs.Plain.{ArePlain, plain_body, values_at, plain_at}
@@ -39,7 +40,7 @@ pub record AreTaken (kind : ColType) (count : ℕ) (old new : Place) (values : L
   pub len : length values ≡ count
   pub takes : Takes old new (plain_body values)
 
-pub values_taken : (kind : ColType) (n : ℕ) (p : Place) (x : List Value × Place) → IsBytes p.rest → values_at kind n p ≡ Ok x → AreTaken kind n p x.1 x.0
+values_taken : (kind : ColType) (n : ℕ) (p : Place) (x : List Value × Place) → IsBytes p.rest → values_at kind n p ≡ Ok x → AreTaken kind n p x.1 x.0
 values_taken kind zero p x fits e =
     let same : ([], p) ≡ x = ok_is ([], p) x e in
     subst (λ (y : List Value × Place). AreTaken kind zero p y.1 y.0) same
@@ -52,21 +53,27 @@ values_taken kind (suc n) p x fits e =
     subst (λ (y : List Value × Place). AreTaken kind (suc n) p y.1 y.0) (ok_is (b.0.0 ∷ d.0.0, d.0.1) x d.2)
     (record { plain = (t.plain, u.plain); len = omega (arith, u.len); takes = Takes-then p b.0.1 d.0.1 (plain_bytes b.0.0) (plain_body d.0.0) t.takes u.takes })
 
-pub values_again : (kind : ColType) (values : List Value) (at : ℕ) → AllByRecursion (IsPlain kind) values → values_at kind (length values) (record { at = at; rest = plain_body values }) ≡ Ok (values, record { at = at + length (plain_body values); rest = [] })
+values_again : (kind : ColType) (values : List Value) (at : ℕ) → AllByRecursion (IsPlain kind) values → values_at kind (length values) (record { at = at; rest = plain_body values }) ≡ Ok (values, record { at = at + length (plain_body values); rest = [] })
 values_again kind [] at h = let e : at + 0 ≡ at = omega arith in rw e refl
 values_again kind (value ∷ values) at h =
     let ih = values_again kind values (at + length (plain_bytes value)) h.1 in
     let e : at + length (plain_bytes value) + length (plain_body values) ≡ at + length (plain_bytes value ++ plain_body values) = omega (arith, length-append (plain_bytes value) (plain_body values)) in
     rw (value_again kind value (plain_body values) at h.0, ih, e) refl
 
-pub body_only : (kind : ColType) (count : ℕ) (bytes : List ℕ) (values : List Value) → length values ≡ count → ArePlain kind values → bytes ≡ plain_body values → plain_at kind count bytes ≡ Ok values
-body_only kind count bytes values len h e =
-    let P : ℕ → List ℕ → Type 0 = λ n xs. plain_at kind n xs ≡ Ok values in
-    subst (λ (n : ℕ). P n bytes) len (subst (λ (xs : List ℕ). P (length values) xs) (sym e) (whole_at _ values _ (values_again kind values 0 h.plain)))
+body_again : (kind : ColType) (values : List Value) → ArePlain kind values → plain_at kind (length values) (plain_body values) ≡ Ok values
+body_again kind values h = whole_at _ values _ (values_again kind values 0 h.plain)
 
-pub body_found : (kind : ColType) (count : ℕ) (bytes : List ℕ) (values : List Value) → IsBytes bytes → length bytes < 2 ^ 64 → plain_at kind count bytes ≡ Ok values → (length values ≡ count) × ArePlain kind values × (bytes ≡ plain_body values)
-body_found kind count bytes values fits short e =
+body_taken : (kind : ColType) (count : ℕ) (bytes : List ℕ) (values : List Value) → IsBytes bytes → length bytes < 2 ^ 64 → plain_at kind count bytes ≡ Ok values
+    → IsBody (ArePlain kind) plain_body count bytes values
+body_taken kind count bytes values fits short e =
     let w = whole_ok (values_at kind count (start bytes)) values e in
     let t = values_taken kind count (start bytes) (values, w.behind) fits w.told in
     let spelled : bytes ≡ plain_body values = t.takes.passes.rest ∙ ap (λ (rest : List ℕ). plain_body values ++ rest) w.used ∙ append-nil (plain_body values) in
-    (t.len, record { plain = t.plain; room = subst (λ (xs : List ℕ). length xs < 2 ^ 64) spelled short }, spelled)
+    record {
+      total = t.len;
+      lawful = record { plain = t.plain; room = subst (λ (xs : List ℕ). length xs < 2 ^ 64) spelled short };
+      spelled = spelled;
+    }
+
+pub plain_codec : (kind : ColType) → IsCodec (plain_at kind) (ArePlain kind) plain_body
+plain_codec kind = record { takes = body_taken kind; again = body_again kind }

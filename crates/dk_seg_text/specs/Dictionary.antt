@@ -9,7 +9,7 @@ use Rattle.dk_values.specs.declared.value.Value.TheVariants as values
 use Rattle.dk_bytes.specs.Fields.{Place, bytes_at, number_at}
 use Rattle.dk_bytes.specs.PlainValue.{IsPlain, text_at}
 use Rattle.dk_bytes.specs.Reading.{◌>>=◌, start, whole, or_fault}
-use Rattle.dk_seg_pack.specs.Bits.{bit_width, byte_count, packed, numbers_in}
+use Rattle.dk_bytes.specs.Bits.{bit_width, byte_count, packed, numbers_in}
 
 abbrev pub text_of : Value → List ℕ
 text_of (values.Text text) = text
@@ -42,6 +42,10 @@ codes_behind entries (text ∷ texts) = code_of entries text ∷ codes_behind (w
 -- the width that each code has
 abbrev pub code_width : ℕ → ℕ
 code_width entry_count = bit_width (entry_count - 1)
+
+-- a text whose length has two bytes
+abbrev pub IsShort : List ℕ → Type 0
+IsShort text = length text < 2 ^ 16
 
 abbrev pub entry_bytes : List ℕ → List ℕ
 entry_bytes text = to_le_bytes w16 (length text) ++ text

@@ -3,21 +3,20 @@
 
 ghost use Rattle.std.specs.Prelude.{◌≡◌, ◌++◌, ◌↔◌, ◌≤◌, ◌<◌, ◌+◌, ◌-◌, ◌^◌, ℕ, List, [], ◌∷◌, ◌*◌, ◌&&◌, ◌||◌, not, Some, None, true, false, length, take, map, option_map, bytes_eq, Ok, IsSome, IsTrue, IfSome, IfOk, OnOk, OnErr};
 ghost use Rattle.std.specs.List.{AllByRecursion, flat_map, list_any};
-ghost use Rattle.dk_seg_pack.specs.Bits.{packed};
+ghost use Rattle.dk_bytes.specs.Bits.{packed};
 ghost use Rattle.dk_values.specs.declared.value.Value.{Value};
 ghost use Rattle.dk_values.specs.declared.value.Value.TheVariants as values;
 ghost use Rattle.dk_values.specs.declared.value.ColType.TheVariants as types;
 ghost use Rattle.dk_bytes.specs.PlainValue.{IsPlain, is_present, present, text_at};
-ghost use Rattle.dk_bytes.specs.Reading.{Gives};
+ghost use Rattle.dk_bytes.specs.Reading.{Gives, IsBody};
 ghost use Rattle.dk_seg_text.specs.declared.dictionary.TheConstants.{MAX_ENTRIES};
 ghost use Rattle.dk_seg_text.specs.Dictionary.{text_of, is_entry, entries_of, codes_behind, code_width, entry_bytes, dictionary_bytes, IsDictionary, entry_at, entries_at, used_behind, are_all_used, text_with, texts_with, codes_at, width_at, texts_at, is_text, dictionary_at};
 
 use crate::entries::Entries;
 use dk_bytes::{
-    Cursor, SegError, are_plain, cut_if_failed, is_present, present_count, put_u8, put_u16,
-    split_present, take_text,
+    Cursor, SegError, are_plain, bit_width, byte_count, cut_if_failed, is_present, pack,
+    present_count, put_u8, put_u16, split_present, take_packed, take_text, unpack,
 };
-use dk_seg_pack::numbers::{bit_width, byte_count, pack, take_packed, unpack};
 use dk_values::{ColType, List, OutOfMemory, Value};
 use std::alloc::Global;
 
@@ -194,11 +193,13 @@ pub fn encode(values: &[Value], kind: ColType, out: &mut Vec<u8>) -> Result<(), 
 
 /// Appends the body. Without memory a part of it may have been appended.
 fn put_body(values: &[Value], out: &mut Vec<u8>) -> Result<(), OutOfMemory>
+    requires plain { AllByRecursion (IsPlain types.Text) (present values.now) }
+    requires few { length (entries_of (map text_of (present values.now))) < 2 ^ 16 }
     ensures ok { OnOk result (out.new.items ≡ out.old.items ++ dictionary_bytes (present values.now)) }
     ensures kept { take (length out.old.items) out.new.items ≡ out.old.items }
 {
     let (entries, codes) = coded(*out.allocator(), values)?;
-    put_u16(out, (entries.len() % 65_536) as u16)?;
+    put_u16(out, entries.len() as u16)?;
     entries.put(out)?;
     put_codes(out, entries.len(), &codes)
 }
@@ -368,9 +369,7 @@ fn read(alloc: Global, bytes: &[u8], kind: ColType, count: usize) -> Result<Vec<
     }
     let mut cursor = Cursor::new(bytes);
     let values = read_texts(alloc, &mut cursor, count)?;
-    if cursor.left() > 0 {
-        return Err(SegError::Malformed { at: cursor.at() });
-    }
+    cursor.finish()?;
     Ok(values)
 }
 
@@ -381,10 +380,9 @@ pub fn decode(
     kind: ColType,
     count: usize,
 ) -> Result<Vec<Value>, SegError>
-    ensures found { IfOk result (λ v. (length v.items ≡ count) × IsDictionary kind v.items
-        × (bytes.now ≡ dictionary_bytes v.items)) }
-    ensures only { (values : List Value) → length values ≡ count → IsDictionary kind values
-        → bytes.now ≡ dictionary_bytes values → Gives (λ v. v.items) result (Ok values) }
+    ensures found { IfOk result (λ v. IsBody (IsDictionary kind) dictionary_bytes count bytes.now v.items) }
+    ensures only { (values : List Value) → IsBody (IsDictionary kind) dictionary_bytes count bytes.now values
+        → Gives (λ v. v.items) result (Ok values) }
     ensures place { Gives (λ v. v.items) result (dictionary_at kind count bytes.now) }
 {
     read(alloc, bytes, kind, count)

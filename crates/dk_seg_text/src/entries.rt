@@ -1,7 +1,7 @@
 //! The entries of a dictionary while it is made or read.
-ghost use Rattle.std.specs.List.{flat_map};
+ghost use Rattle.std.specs.List.{AllByRecursion, flat_map};
 ghost use Rattle.std.specs.Prelude.{◌≡◌, ◌++◌, ◌<◌, ◌^◌, [], take, not, length, slice_index_or, IfOk, OnOk};
-ghost use Rattle.dk_seg_text.specs.Dictionary.{is_entry, with_entry, code_of, entry_bytes};
+ghost use Rattle.dk_seg_text.specs.Dictionary.{IsShort, is_entry, with_entry, code_of, entry_bytes};
 
 use dk_bytes::put_u16;
 use dk_values::OutOfMemory;
@@ -72,6 +72,7 @@ impl<'a> Entries<'a> {
 
     /// Appends the texts, each behind its length. Without memory some of them may have been appended.
     pub(crate) fn put(&self, out: &mut Vec<u8>) -> Result<(), OutOfMemory>
+        requires { AllByRecursion IsShort self.now }
         ensures ok { OnOk result (out.new.items ≡ out.old.items ++ flat_map entry_bytes self.now) }
         ensures kept { take (length out.old.items) out.new.items ≡ out.old.items }
     {
@@ -85,9 +86,10 @@ impl<'a> Entries<'a> {
 
 /// Appends a text behind its length.
 fn put_entry(out: &mut Vec<u8>, text: &[u8]) -> Result<(), OutOfMemory>
+    requires { IsShort text.now }
     ensures ok { OnOk result (out.new.items ≡ out.old.items ++ entry_bytes text.now) }
     ensures kept { take (length out.old.items) out.new.items ≡ out.old.items }
 {
-    put_u16(out, (text.len() % 65_536) as u16)?;
+    put_u16(out, text.len() as u16)?;
     out.extend_from_slice(text)
 }

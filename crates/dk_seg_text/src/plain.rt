@@ -4,7 +4,7 @@ ghost use Rattle.std.specs.Prelude.{◌≡◌, ◌++◌, ◌↔◌, List, length
 ghost use Rattle.std.specs.List.{AllByRecursion};
 ghost use Rattle.dk_values.specs.declared.value.Value.{Value};
 ghost use Rattle.dk_bytes.specs.PlainValue.{IsPlain, present};
-ghost use Rattle.dk_bytes.specs.Reading.{Gives};
+ghost use Rattle.dk_bytes.specs.Reading.{Gives, IsBody};
 ghost use Rattle.dk_seg_text.specs.Plain.{ArePlain, plain_body, values_at, plain_at};
 
 use dk_bytes::{Cursor, SegError, cut_if_failed, plain_len, put_value, read_value, split_present};
@@ -62,10 +62,9 @@ pub fn decode(
     kind: ColType,
     count: usize,
 ) -> Result<Vec<Value>, SegError>
-    ensures found { IfOk result (λ v. (length v.items ≡ count) × ArePlain kind v.items
-        × (bytes.now ≡ plain_body v.items)) }
-    ensures only { (values : List Value) → length values ≡ count → ArePlain kind values
-        → bytes.now ≡ plain_body values → Gives (λ v. v.items) result (Ok values) }
+    ensures found { IfOk result (λ v. IsBody (ArePlain kind) plain_body count bytes.now v.items) }
+    ensures only { (values : List Value) → IsBody (ArePlain kind) plain_body count bytes.now values
+        → Gives (λ v. v.items) result (Ok values) }
     ensures place { Gives (λ v. v.items) result (plain_at kind count bytes.now) }
 {
     read(alloc, bytes, kind, count)
@@ -77,9 +76,7 @@ fn read(alloc: Global, bytes: &[u8], kind: ColType, count: usize) -> Result<Vec<
 {
     let mut cursor = Cursor::new(bytes);
     let values = read_values(alloc, &mut cursor, kind, count)?;
-    if cursor.left() > 0 {
-        return Err(SegError::Malformed { at: cursor.at() });
-    }
+    cursor.finish()?;
     Ok(values)
 }
 

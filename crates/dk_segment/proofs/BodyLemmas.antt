@@ -1,23 +1,23 @@
 -- What holds of the body of every encoding.
+use Rattle.dk_bytes.specs.Fields.{IsBytes}
 use Rattle.std.proofs.Common.{◌≡◌, ℕ, zero, suc, ◌+◌, ◌^◌, ◌<◌, ◌≤◌, Bool, true, false, List, [], ◌∷◌, ◌++◌, length, Result, Ok, Err, refl, sym, ap, subst, ◌∙◌, arith, replicate, cond, eqb}
 use Rattle.std.specs.List.{AllByRecursion, flat_map}
 use Rattle.dk_values.specs.declared.value.ColType.{ColType}
 use Rattle.dk_values.specs.declared.value.ColType.TheVariants as types
 use Rattle.dk_values.specs.declared.value.Value.{Value}
 use Rattle.dk_bytes.specs.PlainValue.{IsPlain}
-use Rattle.dk_bytes.proofs.NumberLemmas.{IsBytes}
 use Rattle.dk_seg_run.specs.declared.run_length.Run.{Run}
 use Rattle.dk_seg_run.specs.RunLength.{IsRun, runs_of, expanded}
 use Rattle.dk_seg_run.proofs.RunLemmas.{expanded-runs_of}
-use Rattle.dk_seg_run.proofs.ConstantLemmas as constants
-use Rattle.dk_seg_run.proofs.RunBodyLemmas as runs
-use Rattle.dk_seg_pack.proofs.DecodeLemmas as packs
-use Rattle.dk_seg_text.proofs.ValueLemmas as plains
-use Rattle.dk_seg_text.proofs.DecodeLemmas as dictionaries
-use Rattle.dk_seg_text.proofs.RoundTripLemmas as written
+use Rattle.dk_seg_run.proofs.ConstantLemmas.{constant_codec}
+use Rattle.dk_seg_run.proofs.RunBodyLemmas.{run_length_codec}
+use Rattle.dk_seg_pack.proofs.DecodeLemmas.{packed_codec}
+use Rattle.dk_seg_text.proofs.ValueLemmas.{plain_codec}
+use Rattle.dk_seg_text.proofs.RoundTripLemmas.{dictionary_codec}
+use Rattle.dk_bytes.proofs.BodyLemmas.{IsCodec}
 use Rattle.std.specs.Prelude.{IfErr}
-use Rattle.dk_bytes.specs.declared.segment_error.SegError.{SegError}
-use Rattle.dk_bytes.specs.declared.segment_error.SegError.TheVariants.{Malformed}
+use Rattle.dk_bytes.specs.declared.field_error.FieldError.{FieldError}
+use Rattle.dk_bytes.specs.declared.field_error.FieldError.TheVariants.{Malformed}
 use Rattle.dk_bytes.specs.Reading.{FailsAt, Gives}
 use Rattle.dk_bytes.proofs.FaultPlaceLemmas.{FailsBy}
 use Rattle.dk_seg_run.proofs.RunFaultLemmas.{constant_within, runs_within_body}
@@ -27,25 +27,13 @@ use Rattle.dk_segment.specs.declared.encoding.Encoding.{Encoding}
 use Rattle.dk_segment.specs.declared.encoding.Encoding.TheVariants.{Constant, RunLength, Packed, Dictionary, Plain}
 use Rattle.dk_segment.specs.Bodies.{Holds, body_of, body_at, goes_with, is_plain}
 
--- the bytes are the body of so many values
-pub record IsBodyOf (encoding : Encoding) (kind : ColType) (count : ℕ) (bytes : List ℕ) (values : List Value) : Type 0 where
-  pub total : length values ≡ count
-  pub holds : Holds encoding kind values
-  pub told : bytes ≡ body_of encoding values
-
-pub body_found : (encoding : Encoding) (kind : ColType) (count : ℕ) (bytes : List ℕ) (values : List Value) → IsBytes bytes → length bytes < 2 ^ 64 → body_at encoding kind count bytes ≡ Ok values → IsBodyOf encoding kind count bytes values
-body_found Constant kind count bytes values fits small e = let b = constants.body_found kind count bytes values fits e in record { total = b.total; holds = b.constant; told = b.told }
-body_found RunLength kind count bytes values fits small e = let b = runs.body_found kind count bytes values fits e in record { total = b.total; holds = b.runs; told = b.told }
-body_found Packed kind count bytes values fits small e = let b = packs.body_taken kind count bytes values fits e in record { total = b.0; holds = b.1; told = b.2 }
-body_found Dictionary kind count bytes values fits small e = let b = dictionaries.body_found kind count bytes values fits e in record { total = b.0; holds = b.1; told = b.2 }
-body_found Plain kind count bytes values fits small e = let b = plains.body_found kind count bytes values fits small e in record { total = b.0; holds = b.1; told = b.2 }
-
-pub body_only : (encoding : Encoding) (kind : ColType) (count : ℕ) (bytes : List ℕ) (values : List Value) → length values ≡ count → Holds encoding kind values → bytes ≡ body_of encoding values → body_at encoding kind count bytes ≡ Ok values
-body_only Constant kind count bytes values len h e = constants.body_only kind count bytes values len h e
-body_only RunLength kind count bytes values len h e = runs.body_only kind count bytes values len h e
-body_only Packed kind count bytes values len h e = packs.body_only kind count bytes values len h e
-body_only Dictionary kind count bytes values len h e = written.body_only kind count bytes values len h e
-body_only Plain kind count bytes values len h e = plains.body_only kind count bytes values len h e
+-- the reading of each body
+pub body_codec : (encoding : Encoding) (kind : ColType) → IsCodec (body_at encoding kind) (Holds encoding kind) (body_of encoding)
+body_codec Constant kind = constant_codec kind
+body_codec RunLength kind = run_length_codec kind
+body_codec Packed kind = packed_codec kind
+body_codec Dictionary kind = dictionary_codec kind
+body_codec Plain kind = plain_codec kind
 
 -- a fault stands at most at the body's end
 body_within : (encoding : Encoding) (kind : ColType) (count : ℕ) (bytes : List ℕ) → FailsBy (length bytes) (body_at encoding kind count bytes)
@@ -58,11 +46,11 @@ body_within Plain kind count bytes = plain_within kind count bytes
 fault_by : {A : Type 0} (end at : ℕ) (reading : Result A ℕ) → FailsBy end reading → reading ≡ Err at → at ≤ end
 fault_by {A} end at reading h e = let P : Result A ℕ → Type 0 = λ r. FailsBy end r in subst P e h
 
-pub place_within : {X : Type 0} (view : X → List Value) (result : Result X SegError) (encoding : Encoding) (kind : ColType) (count : ℕ) (bytes : List ℕ) → Gives view result (body_at encoding kind count bytes)
+pub place_within : {X : Type 0} (view : X → List Value) (result : Result X FieldError) (encoding : Encoding) (kind : ColType) (count : ℕ) (bytes : List ℕ) → Gives view result (body_at encoding kind count bytes)
     → IfErr result (λ e. (at : ℕ) → e ≡ Malformed at → at ≤ length bytes)
 place_within view (Ok x) encoding kind count bytes g = tt
 place_within view (Err e) encoding kind count bytes g = λ at is.
-    fault_by (length bytes) at (body_at encoding kind count bytes) (body_within encoding kind count bytes) (subst (λ (f : SegError). FailsAt f (body_at encoding kind count bytes)) is g)
+    fault_by (length bytes) at (body_at encoding kind count bytes) (body_within encoding kind count bytes) (subst (λ (f : FieldError). FailsAt f (body_at encoding kind count bytes)) is g)
 
 -- ---- the values that are held
 

@@ -7,7 +7,8 @@ use Rattle.dk_values.specs.declared.value.ColType.TheVariants as types
 use Rattle.dk_values.specs.declared.value.Value.{Value}
 use Rattle.dk_values.specs.declared.value.Value.TheVariants as cell
 use Rattle.dk_bytes.specs.PlainValue.{IsPlain}
-use Rattle.dk_segment.specs.Segment.{flag_of, flags_of, ones, with_nulls, IsCell}
+use Rattle.dk_bytes.specs.RowFields.{IsCell}
+use Rattle.dk_segment.specs.Segment.{flag_of, flags_of, ones, with_nulls}
 use Rattle.dk_bytes.specs.PlainValue.{is_present, present}
 
 -- ---- what a list with nulls is made of

@@ -1,5 +1,6 @@
 -- A segment is read as the values that were written, and what is read is a segment.
 use Rattle.std.proofs.Common.{◌≡◌, ℕ, zero, suc, ◌+◌, ◌-◌, ◌*◌, ◌^◌, ◌<◌, ◌≤◌, Bool, true, false, ◌&&◌, ◌||◌, cond, eqb, ltb, leb, List, [], ◌∷◌, ◌++◌, length, map, Option, Some, None, Result, Ok, Err, refl, sym, ap, subst, ◌∙◌, append_assoc, arith, min, take, drop, inl, inr, ◌⊎◌, ◌/◌, ◌%◌}
+use Rattle.dk_bytes.proofs.PackingLemmas.{found_packed, packed_again}
 use Rattle.std.specs.List.{AllByRecursion, list_all, list_any}
 use Rattle.std.specs.Int.{w8, w32, to_le_bytes}
 use Rattle.std.proofs.lemmas.Bool.{ltb-true, leb-true, le-leb, and_parts}
@@ -8,20 +9,20 @@ use Rattle.std.specs.Simd.Lanes.{digits_l as digits, number_l as number}
 use Rattle.dk_bytes.proofs.NumberLemmas.{IsBytes-take, ok_is, fault_none, bytes_front}
 use Rattle.dk_values.specs.declared.value.ColType.{ColType}
 use Rattle.dk_values.specs.declared.value.Value.{Value}
-use Rattle.dk_bytes.specs.Fields.{Place, Passes, bytes_at, number_at}
+use Rattle.dk_bytes.specs.Fields.{IsBytes, Place, Passes, bytes_at, number_at}
 use Rattle.dk_bytes.specs.PlainValue.{IsPlain}
 use Rattle.dk_bytes.specs.Reading.{◌>>=◌, start, or_fault}
-use Rattle.dk_bytes.proofs.NumberLemmas.{IsBytes, low_byte, Takes, Takes-then, bind_ok, bind_at, guard_ok, chosen_ok, wide8, wide32, number_takes, number_again, bytes_takes, bytes_again}
-use Rattle.dk_seg_pack.specs.Bits.{byte_count, packed, numbers_in}
+use Rattle.dk_bytes.proofs.NumberLemmas.{low_byte, Takes, Takes-then, bind_ok, bind_at, guard_ok, chosen_ok, wide8, wide32, number_takes, number_again, bytes_takes, bytes_again}
+use Rattle.dk_bytes.specs.Bits.{byte_count, packed, numbers_in}
 use Rattle.std.proofs.lemmas.List.{length-append}
-use Rattle.dk_seg_pack.proofs.DigitLemmas.{length-digits}
-use Rattle.dk_seg_pack.proofs.RoundTripLemmas.{packed_again, found_packed}
+use Rattle.dk_bytes.proofs.DigitLemmas.{length-digits}
 use Rattle.dk_segment.specs.declared.encoding.Encoding.{Encoding}
 use Rattle.dk_segment.specs.declared.encoding.Encoding.TheVariants.{Constant, RunLength, Packed, Dictionary, Plain}
 use Rattle.dk_segment.specs.Bodies.{Holds, body_of, body_at, code_of, encoding_of, known, goes_with, is_plain}
 use Rattle.dk_segment.specs.Segment.{flags_of, ones, with_nulls, mask_flag, mask_bytes, segment_bytes, IsSegment, encoding_at, flag_at, count_at, mask_of, flags_at, moved, masked_at, values_at, segment_at}
 use Rattle.dk_bytes.specs.PlainValue.{is_present, present}
-use Rattle.dk_segment.proofs.BodyLemmas.{IsBodyOf, body_found, body_only, holds_plain, holds_goes, holds_some}
+use Rattle.dk_bytes.proofs.BodyLemmas.{body_read}
+use Rattle.dk_segment.proofs.BodyLemmas.{body_codec, holds_plain, holds_goes, holds_some}
 use Rattle.dk_segment.proofs.NullLemmas.{all_present, null_flag, flag_null, ones_flags, present_flag, flags_fit, placed_again, length-flags, plain_all_present, IsMadeOf, made_of}
 
 abbrev ok_values : List Value → Result (List Value) ℕ
@@ -86,7 +87,9 @@ masked_again : (encoding : Encoding) (kind : ColType) (values : List Value) (at 
 unfolding masked_at
 masked_again encoding kind values at h e =
     let body : body_at encoding kind (ones (flags_of values)) (body_of encoding (present values)) ≡ Ok (present values)
-    = body_only encoding kind (ones (flags_of values)) (body_of encoding (present values)) (present values) (sym (ones_flags values)) h refl in
+    = body_read (body_at encoding kind) (Holds encoding kind) (body_of encoding) (body_codec encoding kind)
+    (ones (flags_of values)) (body_of encoding (present values)) (present values)
+    (record { total = sym (ones_flags values); lawful = h; spelled = refl }) in
     rw (flags_again encoding kind values (body_of encoding (present values)) at h e, body) (ap (λ (l : List Value). ok_values l) (placed_again values))
 
 values_again : (encoding : Encoding) (kind : ColType) (values : List Value) (at : ℕ) → Holds encoding kind (present values)
@@ -97,7 +100,9 @@ values_again encoding kind values at h = by_test (list_all is_present values) re
     by_test true e =
         let same = all_present values e in
         let body : body_at encoding kind (length values) (body_of encoding (present values)) ≡ Ok (present values)
-        = body_only encoding kind (length values) (body_of encoding (present values)) (present values) (ap length same) h refl in
+        = body_read (body_at encoding kind) (Holds encoding kind) (body_of encoding) (body_codec encoding kind)
+        (length values) (body_of encoding (present values)) (present values)
+        (record { total = ap length same; lawful = h; spelled = refl }) in
         rw (e, body) (ap (λ (l : List Value). ok_values l) same)
     by_test false e = rw e (masked_again encoding kind values at h e)
 
@@ -236,30 +241,30 @@ moved_ok n (Err at) y e = absurd cc
 unmasked_found : (encoding : Encoding) (kind : ColType) (n : ℕ) (bytes rest : List ℕ) (values : List Value) → IsBytes rest → length rest < 2 ^ 64 → 1 ≤ n → n ≤ 2048
     → bytes ≡ code_of encoding ∷ 0 ∷ (to_le_bytes w32 n ++ rest) → body_at encoding kind n rest ≡ Ok values → IsSegment kind encoding values bytes
 unmasked_found encoding kind n bytes rest values fits small low high told e =
-    let b = body_found encoding kind n rest values fits small e in
-    let all = plain_all_present kind values (holds_plain encoding kind values b.holds) in
+    let b = (body_codec encoding kind).takes n rest values fits small e in
+    let all = plain_all_present kind values (holds_plain encoding kind values b.lawful) in
     let same = all_present values all in
     record {
       some = rw b.total low;
       few = rw b.total high;
-      holds = subst (λ (vs : List Value). Holds encoding kind vs) (sym same) b.holds;
-      spelled = rw (all, same, b.total) (told ∙ ap (λ (l : List ℕ). code_of encoding ∷ 0 ∷ (to_le_bytes w32 n ++ l)) b.told);
+      holds = subst (λ (vs : List Value). Holds encoding kind vs) (sym same) b.lawful;
+      spelled = rw (all, same, b.total) (told ∙ ap (λ (l : List ℕ). code_of encoding ∷ 0 ∷ (to_le_bytes w32 n ++ l)) b.spelled);
     }
 
 masked_found : (encoding : Encoding) (kind : ColType) (n : ℕ) (bytes flags rest : List ℕ) (values : List Value) → IsBytes rest → length rest < 2 ^ 64 → 1 ≤ n → n ≤ 2048
     → bytes ≡ code_of encoding ∷ 1 ∷ (to_le_bytes w32 n ++ (packed 1 flags ++ rest)) → length flags ≡ n → AllByRecursion (λ flag. flag < 2 ^ 1) flags → list_any (λ flag. eqb flag 0) flags ≡ true
     → body_at encoding kind (ones flags) rest ≡ Ok values → IsSegment kind encoding (with_nulls flags values) bytes
 masked_found encoding kind n bytes flags rest values fits small low high told total fit null e =
-    let b = body_found encoding kind (ones flags) rest values fits small e in
+    let b = (body_codec encoding kind).takes (ones flags) rest values fits small e in
     let all = with_nulls flags values in
-    let made = made_of kind flags values fit (holds_plain encoding kind values b.holds) (sym b.total) in
+    let made = made_of kind flags values fit (holds_plain encoding kind values b.lawful) (sym b.total) in
     let some : list_all is_present (with_nulls flags values) ≡ false = flag_null (with_nulls flags values) (ap (list_any (λ flag. eqb flag 0)) made.flags_told ∙ null) in
     let len : length (with_nulls flags values) ≡ n = sym (length-flags (with_nulls flags values)) ∙ ap length made.flags_told ∙ total in
     record {
       some = rw len low;
       few = rw len high;
-      holds = subst (λ (vs : List Value). Holds encoding kind vs) (sym made.present_told) b.holds;
-      spelled = rw (some, made.flags_told, made.present_told, len) (told ∙ ap (λ (l : List ℕ). code_of encoding ∷ 1 ∷ (to_le_bytes w32 n ++ (packed 1 flags ++ l))) b.told);
+      holds = subst (λ (vs : List Value). Holds encoding kind vs) (sym made.present_told) b.lawful;
+      spelled = rw (some, made.flags_told, made.present_told, len) (told ∙ ap (λ (l : List ℕ). code_of encoding ∷ 1 ∷ (to_le_bytes w32 n ++ (packed 1 flags ++ l))) b.spelled);
     }
 
 shorter : (whole front rest : List ℕ) → whole ≡ front ++ rest → length whole < 2 ^ 64 → length rest < 2 ^ 64

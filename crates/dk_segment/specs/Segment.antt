@@ -1,5 +1,6 @@
 -- Which bytes are a segment, and of which values.
 use Rattle.std.specs.Prelude.{◌≡◌, ℕ, ◌+◌, ◌-◌, ◌*◌, ◌≤◌, Bool, true, false, ◌&&◌, ◌||◌, not, List, [], ◌∷◌, ◌++◌, length, map, count_by, Option, Some, None, Result, Ok, Err, ◌==◌, nat_lt, nat_le, if◌then◌else◌}
+use Rattle.dk_bytes.specs.RowFields.{IsCell}
 use Rattle.std.specs.List.{AllByRecursion, list_all, list_any}
 use Rattle.std.specs.Int.{w8, w32, to_le_bytes}
 use Rattle.dk_values.specs.declared.value.ColType.{ColType}
@@ -8,17 +9,12 @@ use Rattle.dk_values.specs.declared.value.Value.TheVariants as cell
 use Rattle.dk_bytes.specs.Fields.{Place, bytes_at, number_at}
 use Rattle.dk_bytes.specs.PlainValue.{IsPlain, is_present, present}
 use Rattle.dk_bytes.specs.Reading.{◌>>=◌, start, or_fault}
-use Rattle.dk_seg_pack.specs.Bits.{byte_count, packed, numbers_in}
+use Rattle.dk_bytes.specs.Bits.{byte_count, packed, numbers_in}
 use Rattle.dk_segment.specs.declared.encoding.Encoding.{Encoding}
 use Rattle.dk_segment.specs.declared.present.TheConstants.{MAX_VALUES}
 use Rattle.dk_segment.specs.Bodies.{Holds, body_of, body_at, code_of, encoding_of, goes_with, is_plain}
 
 -- ---- values with nulls among them
-
--- null, or a value of the type
-abbrev pub IsCell : ColType → Value → Type 0
-IsCell kind cell.Null = Unit {0}
-IsCell kind value = IsPlain kind value
 
 -- what a segment can hold: 1 to 2,048 values, each null or of the type
 pub record IsColumn (kind : ColType) (values : List Value) : Type 0 where

@@ -2,7 +2,7 @@
 ghost use Rattle.std.specs.Prelude.{◌≡◌, ◌++◌, ◌↔◌, ◌≤◌, ℕ, length, IsSome, IfErr, IfSome, OnOk};
 ghost use Rattle.dk_bytes.specs.PlainValue.{present};
 ghost use Rattle.dk_bytes.specs.Reading.{Gives};
-ghost use Rattle.dk_bytes.specs.declared.segment_error.SegError.TheVariants.{Malformed};
+ghost use Rattle.dk_bytes.specs.declared.field_error.FieldError.TheVariants.{Malformed};
 ghost use Rattle.dk_segment.specs.Bodies.{Holds, body_of, body_at};
 
 use crate::encoding::Encoding;

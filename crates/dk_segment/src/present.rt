@@ -2,7 +2,8 @@
 ghost use Rattle.std.specs.Prelude.{◌≡◌, ◌↔◌, map, IsTrue, IfOk};
 ghost use Rattle.std.specs.List.{AllByRecursion, list_all};
 ghost use Rattle.dk_bytes.specs.PlainValue.{is_present};
-ghost use Rattle.dk_segment.specs.Segment.{IsCell, IsColumn, flag_of, flags_of, with_nulls};
+ghost use Rattle.dk_bytes.specs.RowFields.{IsCell};
+ghost use Rattle.dk_segment.specs.Segment.{IsColumn, flag_of, flags_of, with_nulls};
 
 use dk_bytes::{is_present, plain_len};
 use dk_values::{ColType, OutOfMemory, Value};

@@ -10,8 +10,7 @@ ghost use Rattle.dk_segment.specs.Segment.{IsSegment, ones, encoding_at, flag_at
 use crate::bodies::read_body;
 use crate::encoding::{Encoding, encoding_of};
 use crate::present::{MAX_VALUES, with_nulls};
-use dk_bytes::{Cursor, SegError};
-use dk_seg_pack::numbers::unpack;
+use dk_bytes::{Cursor, SegError, unpack};
 use dk_values::{ColType, Value};
 use std::alloc::Global;
 

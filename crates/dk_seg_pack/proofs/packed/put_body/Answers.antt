@@ -1,7 +1,8 @@
 use Rattle.std.proofs.Common.{◌∙◌}
+use Rattle.dk_bytes.proofs.AppendLemmas.{kept_behind}
 use Rattle.std.proofs.lemmas.Result.{on_ok_weaker}
 use Rattle.dk_bytes.specs.PlainValue.{present}
-use Rattle.dk_seg_pack.proofs.BodyLemmas.{values_fit, fields_joined, kept_behind}
+use Rattle.dk_seg_pack.proofs.BodyLemmas.{values_fit, fields_joined}
 use Rattle.dk_seg_pack.proofs.packed.put_body.Goals as goal
 
 pub pack-requires-clause-numbers : goal.pack-requires-clause-numbers

@@ -1,14 +1,15 @@
-use Rattle.std.proofs.Common.{◌≡◌, List, length, arith}
-use Rattle.dk_values.specs.declared.value.Value.{Value}
-use Rattle.dk_bytes.proofs.OutcomeLemmas.{gives_found, gives_only}
-use Rattle.dk_seg_run.specs.RunLength.{HasRuns, run_length_bytes}
-use Rattle.dk_seg_run.proofs.RunBodyLemmas.{body_found, body_only}
+use Rattle.std.proofs.Common.{arith, rules}
+use Rattle.dk_bytes.proofs.BodyLemmas.{body_found, body_only}
+use Rattle.dk_seg_run.specs.RunLength.{HasRuns, run_length_bytes, run_length_at}
+use Rattle.dk_seg_run.proofs.RunBodyLemmas.{run_length_codec}
 use Rattle.dk_seg_run.proofs.run_length.decode.Goals as goal
 
 pub returns-clause-found : goal.returns-clause-found
 returns-clause-found c =
-    gives_found (λ v. v.items) (λ (vs : List Value). (length vs ≡ c.args.count) × HasRuns c.args.kind vs × (c.args.bytes.now ≡ run_length_bytes vs)) c.read.result _ c.read.ensures
-    (λ vs e. let b = body_found c.args.kind c.args.count c.args.bytes.now vs (λ i. omega (arith, c.type_inv.bytes i)) e in (b.total, b.runs, b.told))
+    body_found (run_length_at c.args.kind) (HasRuns c.args.kind) run_length_bytes (run_length_codec c.args.kind) c.args.count c.args.bytes.now
+    (λ v. v.items) c.read.result c.read.ensures (λ i. omega (arith, c.type_inv.bytes i)) (search rules)
 
 pub returns-clause-only : goal.returns-clause-only
-returns-clause-only c = λ vs len h e. gives_only (λ v. v.items) c.read.result _ vs c.read.ensures (body_only c.args.kind c.args.count c.args.bytes.now vs len h e)
+returns-clause-only c =
+    body_only (run_length_at c.args.kind) (HasRuns c.args.kind) run_length_bytes (run_length_codec c.args.kind) c.args.count c.args.bytes.now
+    (λ v. v.items) c.read.result c.read.ensures

@@ -1,5 +1,5 @@
 use Rattle.std.proofs.Common.{ap, ◌∙◌, ◌<◌, ◌^◌, take, length, rules}
-use Rattle.dk_seg_pack.proofs.BodyLemmas.{kept_in_front, kept_then}
+use Rattle.dk_bytes.proofs.AppendLemmas.{kept_in_front, kept_then}
 use Rattle.dk_seg_text.proofs.CodeLemmas.{codes_fit}
 use Rattle.dk_seg_text.proofs.dictionary.put_codes.Goals as goal
 
