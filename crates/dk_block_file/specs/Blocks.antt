@@ -5,7 +5,7 @@ use Rattle.dk_bytes.specs.Checksum.{checksum_of}
 use Rattle.dk_types.specs.declared.damage.Damage.{Damage}
 use Rattle.dk_types.specs.declared.damage.Damage.TheVariants.{Sum, Outside}
 use Rattle.dk_header.specs.declared.header.DbHeader.{DbHeader}
-use Rattle.dk_header.specs.declared.header.TheConstants.{NO_ROOT, VERSION}
+use Rattle.dk_header.specs.declared.header.TheConstants.{HEADER_BYTES, SUM_BYTES, OPEN_GATE, NO_ROOT, VERSION}
 use Rattle.dk_header.specs.declared.log.TheConstants.{LOG_HEADER_BYTES}
 use Rattle.dk_header.specs.Layout.{with_checksum, main_bytes, body_bytes}
 use Rattle.dk_block_file.specs.declared.fault.BlockFault.{BlockFault}
@@ -31,16 +31,16 @@ abbrev pub stored_sum : List ℕ → ℕ
 stored_sum block = from_le_bytes w64 block
 
 abbrev pub payload_sum : List ℕ → ℕ
-payload_sum block = checksum_of (drop 8 block)
+payload_sum block = checksum_of (drop SUM_BYTES block)
 
 -- a block that holds a payload
 abbrev pub with_sum : List ℕ → List ℕ
-with_sum block = with_checksum (drop 8 block)
+with_sum block = with_checksum (drop SUM_BYTES block)
 
 -- the payload of a block, or its two checksums where they differ
 abbrev pub payload_in : ℕ → List ℕ → Result (List ℕ) Damage
 payload_in block bytes =
-    if stored_sum bytes == payload_sum bytes then Ok (drop 8 bytes) else Err
+    if stored_sum bytes == payload_sum bytes then Ok (drop SUM_BYTES bytes) else Err
     (Sum block (stored_sum bytes) (payload_sum bytes))
 
 -- the payload of a block of a main file, or what is wrong with it
@@ -77,4 +77,4 @@ first_header = record { iteration = 1; root = NO_ROOT; blocks = 0 }
 
 -- the empty database: no root, no blocks, twin 0 open, twin 1 zeros
 abbrev pub empty_main : List ℕ
-empty_main = main_bytes VERSION ++ body_bytes first_header ++ 1 ∷ [] ++ replicate 4096 0
+empty_main = main_bytes VERSION ++ body_bytes first_header ++ OPEN_GATE ∷ [] ++ replicate HEADER_BYTES 0

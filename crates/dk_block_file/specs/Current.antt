@@ -1,6 +1,7 @@
 -- The current header in a main file, and what a flip does to it.
 use Rattle.std.specs.Prelude.{◌≡◌, ◌⊎◌, ℕ, ◌-◌, ◌<◌, ◌≤◌, Result, Ok, Err, Option, None, Some, List, length, take, drop}
 use Rattle.dk_types.specs.declared.damage.Damage.{Damage}
+use Rattle.dk_header.specs.declared.header.TheConstants.{HEADER_BYTES, OPEN_GATE}
 use Rattle.dk_header.specs.declared.header.Current.{Current}
 use Rattle.dk_header.specs.declared.header.DbHeader.{DbHeader}
 use Rattle.dk_header.specs.Layout.{body_read, choice_of}
@@ -12,7 +13,7 @@ use Rattle.dk_block_file.specs.declared.layout.TheConstants.{HEADERS_BYTES}
 
 -- a twin's header with its gate
 abbrev pub header_at : ℕ → List ℕ → List ℕ
-header_at twin main = take 4096 (drop (header_place twin) main)
+header_at twin main = take HEADER_BYTES (drop (header_place twin) main)
 
 -- the number and the header of the chosen twin
 abbrev pub chosen_twin : Result Current Damage → Option (ℕ × DbHeader)
@@ -32,7 +33,7 @@ pub record HasHeaders {D : Type 0} (g : Ghosts D) (disk : D) : Type 0 where
 abbrev pub Overtakes : ℕ → DbHeader → (List ℕ → Type 0) → Type 0
 Overtakes twin header images = (c : List ℕ) → images c → (theirs : DbHeader)
     × (body_read twin (body_at twin c) ≡ Ok header)
-    × (body_read (1 - twin) (body_at (1 - twin) c) ≡ Ok theirs) × (gate_at (1 - twin) c ≡ 1)
+    × (body_read (1 - twin) (body_at (1 - twin) c) ≡ Ok theirs) × (gate_at (1 - twin) c ≡ OPEN_GATE)
     × (theirs.iteration < header.iteration)
 
 -- in each of them this header is the current one

@@ -1,16 +1,15 @@
 -- The effects of the calls on blocks and headers, a record for each.
-use Rattle.std.specs.Prelude.{◌≡◌, ◌≢◌, ℕ, ◌+◌, ◌<◌, ◌≤◌, max, Bool, Result, Ok, Err, IfErr, List, take, drop, IfSome}
+use Rattle.std.specs.Prelude.{◌≡◌, ◌≢◌, ℕ, ◌+◌, ◌<◌, ◌≤◌, max, Bool, Result, Ok, Err, OnOk, IfErr, List, length, take, drop, IfSome}
 use Rattle.std.proofs.Common.{option_map}
 use Rattle.dk_types.specs.declared.damage.Damage.TheVariants.{Sum}
 use Rattle.dk_fault.specs.Causes.{Rose}
-use Rattle.dk_header.specs.declared.header.TheConstants.{VERSION}
+use Rattle.dk_header.specs.declared.header.TheConstants.{HEADER_BYTES, SUM_BYTES, VERSION}
 use Rattle.dk_header.specs.declared.log.TheConstants.{LOG_HEADER_BYTES}
 use Rattle.dk_header.specs.Layout.{main_read}
 use Rattle.dk_header.specs.LogLayout.{log_header_bytes}
 use Rattle.dk_device.specs.declared.device.Disk.{Ghosts}
-use Rattle.dk_device.specs.declared.device.FileId.{FileId}
 use Rattle.dk_device.specs.declared.device.FileId.TheVariants.{Main, Wal}
-use Rattle.dk_device.specs.Calls.{Call, Did, Stopped}
+use Rattle.dk_device.specs.Calls.{Call, Did, Stopped, Makes, synced_write}
 use Rattle.dk_device.specs.Changes.{images_of, IsSynced, Changes, ChangesAlone}
 use Rattle.dk_device.specs.Disk.{overlaid, TornWrite, Allows}
 use Rattle.dk_block_file.specs.declared.fault.BlockFault.{BlockFault}
@@ -42,7 +41,7 @@ DecidedBySums block bytes (Err OutOfMemory) = ⊥
 -- Main is written at a block's place with these bytes: the block reads as their payload, each other one as before
 pub record WritesBlock {D : Type 0} (g : Ghosts D) (block : ℕ) (bytes : List ℕ) (old new : D) : Type 0 where
   pub written : g.content new Main ≡ option_map (overlaid (place_of block) bytes) (g.content old Main)
-  pub reads : IfSome (g.content new Main) (λ main. block_read block main ≡ Ok (drop 8 bytes))
+  pub reads : IfSome (g.content new Main) (λ main. block_read block main ≡ Ok (drop SUM_BYTES bytes))
   pub others : (k : ℕ) → k < blocks_in (g.extent old Main) → k ≢ block →
       option_map (block_at k) (g.content new Main) ≡ option_map (block_at k) (g.content old Main)
   pub grown : g.extent new Main ≡ max (g.extent old Main) (place_of block + BLOCK_BYTES)
@@ -65,22 +64,48 @@ pub record KeepsHeaders {D : Type 0} (g : Ghosts D) (old new : D) : Type 0 where
   pub closes : (was_open : Bool) (twin : ℕ) → twin ≤ 1 → MayClose was_open twin (images_of g old Main) →
       MayClose was_open twin (images_of g new Main)
 
--- a part of a twin's header is written, by this step in what a crash may leave
-pub record WritesTwin {D : Type 0} (g : Ghosts D) (step : List ℕ → List ℕ → Type 0) (old new : D) : Type 0 where
+-- Main reads with these bytes at a place, and a crash leaves nothing else
+pub record IsWritten {D : Type 0} (g : Ghosts D) (at : ℕ) (bytes : List ℕ) (old new : D) : Type 0 where
+  pub written : g.content new Main ≡ option_map (overlaid at bytes) (g.content old Main)
+  pub synced : IsSynced g new Main
+
+-- A range of the headers is written with these bytes and synced: all of it after Ok, up to the call that failed else.
+-- Main is as long as it was, and the log stays.
+pub record WritesHeaders {D : Type 0} (g : Ghosts D) (at : ℕ) (bytes : List ℕ) (old new : D)
+    (result : Result (Unit {0}) BlockFault) : Type 0 where
+  pub done : OnOk result (IsWritten g at bytes old new)
   pub headers : HasHeaders g new
   pub extent : g.extent new Main ≡ g.extent old Main
-  pub alone : ChangesAlone g step Main old new
+  pub alone : ChangesAlone g (TornWrite at (length bytes) (g.extent old Main)) Main old new
+  pub calls : Makes g (synced_write Main at bytes) old new result
+
+-- these calls of the disk were made: all of them after Ok, up to one that failed after its fault, none without memory
+pub record MakesWithMemory {D : Type 0} (g : Ghosts D) (calls : List Call) (old new : D)
+    (result : Result (Unit {0}) BlockFault) : Type 0 where
+  pub done : OnOk result (Did calls (g.time old) (g.calls old) (g.time new) (g.calls new))
+  pub failed : result ≡ Err DiskFault → Stopped calls (g.time old) (g.calls old) (g.time new) (g.calls new)
+  pub memory : result ≡ Err OutOfMemory → new ≡ old
+
+-- the log has no records, and a crash leaves nothing else of it
+pub record HasNewLog {D : Type 0} (g : Ghosts D) (disk : D) : Type 0 where
+  pub content : IfSome (g.content disk Wal) (λ wal. wal ≡ log_header_bytes 1)
+  pub extent : g.extent disk Wal ≡ LOG_HEADER_BYTES
+  pub synced : IsSynced g disk Wal
+
+-- the log is new, and Main begins as that of an empty database
+pub record WritesFiles {D : Type 0} (g : Ghosts D) (old new : D) : Type 0 where
+  pub log : HasNewLog g new
+  pub main : IsWritten g 0 empty_main old new
+  pub extent : g.extent new Main ≡ max (g.extent old Main) HEADERS_BYTES
 
 -- the empty database is there, and a crash leaves nothing else: of this version, its current header in twin 0,
 -- twin 1 closed
 pub record IsCreated {D : Type 0} (g : Ghosts D) (old new : D) : Type 0 where
-  pub main : g.content new Main ≡ option_map (overlaid 0 empty_main) (g.content old Main)
+  pub main : IsWritten g 0 empty_main old new
   pub empty : g.extent old Main ≡ 0 → IfSome (g.content new Main) (λ main. main ≡ empty_main)
   pub extent : g.extent new Main ≡ max (g.extent old Main) HEADERS_BYTES
-  pub log : IfSome (g.content new Wal) (λ wal. wal ≡ log_header_bytes 1)
-  pub log_extent : g.extent new Wal ≡ LOG_HEADER_BYTES
-  pub synced : (f : FileId) → IsSynced g new f
-  pub version : (c : List ℕ) → images_of g new Main c → main_read (take 4096 c) ≡ Ok VERSION
+  pub log : HasNewLog g new
+  pub version : (c : List ℕ) → images_of g new Main c → main_read (take HEADER_BYTES c) ≡ Ok VERSION
   pub current : HasCurrent 0 first_header (images_of g new Main)
   pub headers : HasHeaders g new
   pub second : IsClosed 1 (images_of g new Main)

@@ -1,6 +1,6 @@
 //! A block read from its place and written to it.
 ghost use Rattle.std.specs.Prelude.{◌≡◌, ◌≤◌, ◌<◌, Err, length, drop, OnOk, IfErr, IfSome, ◌≢◌};
-ghost use Rattle.dk_fault.specs.Causes.{HasCauseIf};
+ghost use Rattle.dk_fault.specs.Causes.{HasCause, HasCauseIf};
 ghost use Rattle.dk_device.specs.declared.device.FileId.TheVariants.{Main};
 ghost use Rattle.dk_device.specs.Calls.{Makes};
 ghost use Rattle.dk_device.specs.Changes.{Looks, ChangesAlone};
@@ -12,7 +12,8 @@ ghost use Rattle.dk_block_file.specs.Effects.{FailsByDisk, MakesToFault, Decided
 
 use crate::layout::{BLOCK_BYTES, HEADERS_BYTES, blocks_in};
 use crate::{BlockBuf, BlockFault};
-use dk_device::{Disk, FileId};
+use dk_device::{Disk, Failed, FileId};
+use dk_header::SUM_BYTES;
 use dk_types::Damage;
 
 /// Where a block begins.
@@ -47,11 +48,12 @@ fn check_sum(block: u64, buf: &BlockBuf) -> Result<(), BlockFault>
 fn read_within<D: Disk>(disk: &mut D, block: u64, buf: &mut BlockBuf) -> Result<(), BlockFault>
     requires { block < blocks_in (D.extent disk.old Main) }
     ensures found { IfSome (D.content disk.old Main)
-        (λ main. ReadsAs (block_read block main) (drop 8 buf.new) result) }
+        (λ main. ReadsAs (block_read block main) (drop SUM_BYTES buf.new) result) }
     ensures sums { DecidedBySums block buf.new result }
     ensures looks { Looks D.Disk disk.old disk.new }
     ensures calls { MakesToFault D.Disk (block_read_call block) disk.old disk.new result }
-    ensures cause { HasCauseIf (D.faults disk.old) (D.faults disk.new) (result ≡ Err BlockFault.DiskFault) }
+    ensures cause { HasCauseIf (D.faults disk.old) (D.faults disk.new)
+        (result ≡ Err BlockFault.DiskFault) }
 {
     let at = place_in(disk, block);
     buf.fill(disk, at)?;
@@ -61,21 +63,39 @@ fn read_within<D: Disk>(disk: &mut D, block: u64, buf: &mut BlockBuf) -> Result<
 /// Reads a block, in one call of the disk. After a refusal the buffer holds any bytes.
 pub fn read_block<D: Disk>(disk: &mut D, block: u64, buf: &mut BlockBuf) -> Result<(), BlockFault>
     ensures outside { blocks_in (D.extent disk.old Main) ≤ block →
-        (result ≡ Err (BlockFault.Damaged (Damage.Outside block (blocks_in (D.extent disk.old Main)))))
-        × (disk.new ≡ disk.old) }
+        (result ≡ Err (BlockFault.Damaged
+        (Damage.Outside block (blocks_in (D.extent disk.old Main))))) × (disk.new ≡ disk.old) }
     ensures found { IfSome (D.content disk.old Main)
-        (λ main. ReadsAs (block_read block main) (drop 8 buf.new) result) }
+        (λ main. ReadsAs (block_read block main) (drop SUM_BYTES buf.new) result) }
     ensures sums { block < blocks_in (D.extent disk.old Main) → DecidedBySums block buf.new result }
     ensures looks { Looks D.Disk disk.old disk.new }
     ensures calls { block < blocks_in (D.extent disk.old Main) →
         MakesToFault D.Disk (block_read_call block) disk.old disk.new result }
-    ensures cause { HasCauseIf (D.faults disk.old) (D.faults disk.new) (result ≡ Err BlockFault.DiskFault) }
+    ensures cause { HasCauseIf (D.faults disk.old) (D.faults disk.new)
+        (result ≡ Err BlockFault.DiskFault) }
 {
     let blocks = blocks_in(disk.len(FileId::Main));
     if block >= blocks {
         return Err(BlockFault::Damaged(Damage::Outside { block, blocks }));
     }
     read_within(disk, block, buf)
+}
+
+/// Writes the bytes of a block, which have their checksum in front, at its place.
+fn write_bytes<D: Disk>(disk: &mut D, block: u64, bytes: &[u8]) -> Result<(), Failed>
+    requires place { place_of block ≤ D.extent disk.old Main }
+    requires whole { length bytes.now ≡ BLOCK_BYTES }
+    requires sums { stored_sum bytes.now ≡ payload_sum bytes.now }
+    ensures done { OnOk result (WritesBlock D.Disk block bytes.now disk.old disk.new) }
+    ensures alone { ChangesAlone D.Disk
+        (TornWrite (place_of block) BLOCK_BYTES (D.extent disk.old Main)) Main disk.old disk.new }
+    ensures others { KeepsOtherBlocks D.Disk block disk.old disk.new }
+    ensures headers { HasHeaders D.Disk disk.old → KeepsHeaders D.Disk disk.old disk.new }
+    ensures calls { Makes D.Disk (block_write_call block bytes.now) disk.old disk.new result }
+    ensures cause { HasCause (D.faults disk.old) (D.faults disk.new) result }
+{
+    let at = place_in(disk, block);
+    disk.write_at(FileId::Main, at, bytes)
 }
 
 /// Writes a block with its checksum, in one call of the disk.
@@ -87,11 +107,11 @@ pub fn write_block<D: Disk>(disk: &mut D, block: u64, buf: &mut BlockBuf) -> Res
         (TornWrite (place_of block) BLOCK_BYTES (D.extent disk.old Main)) Main disk.old disk.new }
     ensures others { KeepsOtherBlocks D.Disk block disk.old disk.new }
     ensures headers { HasHeaders D.Disk disk.old → KeepsHeaders D.Disk disk.old disk.new }
-    ensures calls { Makes D.Disk (block_write_call block (with_sum buf.old)) disk.old disk.new result }
+    ensures calls { Makes D.Disk
+        (block_write_call block (with_sum buf.old)) disk.old disk.new result }
     ensures cause { FailsByDisk (D.faults disk.old) (D.faults disk.new) result }
 {
-    let at = place_in(disk, block);
     buf.seal();
-    disk.write_at(FileId::Main, at, buf.as_slice())?;
+    write_bytes(disk, block, buf.as_slice())?;
     Ok(())
 }

@@ -14,10 +14,11 @@ ghost use Rattle.dk_block_file.specs.Lending.{LendsPayload};
 use crate::layout::{BLOCK_BYTES, PAYLOAD_BYTES};
 use dk_bytes::checksum;
 use dk_device::{Disk, Failed, FileId};
+use dk_header::SUM_BYTES;
 use std::alloc::{AllocError as OutOfMemory, Global};
 use std::marker::Model;
 
-/// One block: a checksum of 8 bytes, and its payload.
+/// One block: a checksum, and its payload.
 #[derive(Drop)]
 pub struct BlockBuf {
     bytes: Vec<u8>,
@@ -35,32 +36,31 @@ impl Model for BlockBuf {
 }
 
 fn seal_bytes(block: &mut [u8])
-    requires { 8 ≤ length block.old }
-    ensures { block.new ≡ to_le_bytes w64 (checksum_of (drop 8 block.old)) ++ drop 8 block.old }
+    requires { SUM_BYTES ≤ length block.old }
+    ensures { block.new ≡
+        to_le_bytes w64 (checksum_of (drop SUM_BYTES block.old)) ++ drop SUM_BYTES block.old }
 {
-    let (sum, payload) = block.split_at_mut(8);
+    let (sum, payload) = block.split_at_mut(SUM_BYTES);
     sum.copy_from_slice(&checksum(payload).to_le_bytes());
 }
 
 fn stored_in(block: &[u8]) -> u64
-    requires { 8 ≤ length block.now }
+    requires { SUM_BYTES ≤ length block.now }
     ensures { result ≡ stored_sum block.now }
 {
-    u64::from_le_bytes([
-        block[0], block[1], block[2], block[3], block[4], block[5], block[6], block[7],
-    ])
+    dk_bytes::word_of(block)
 }
 
 fn computed_in(block: &[u8]) -> u64
-    requires { 8 ≤ length block.now }
+    requires { SUM_BYTES ≤ length block.now }
     ensures { result ≡ payload_sum block.now }
 {
-    let (_, payload) = block.split_at(8);
+    let (_, payload) = block.split_at(SUM_BYTES);
     checksum(payload)
 }
 
 impl BlockBuf {
-    /// A block of zeros, which takes its 262,144 bytes at once.
+    /// A block of zeros, which takes all its bytes at once.
     pub fn new(alloc: Global) -> Result<BlockBuf, OutOfMemory>
         ensures { IfOk result (λ block. block ≡ zero_block) }
     {
@@ -78,20 +78,20 @@ impl BlockBuf {
 
     /// The bytes behind the checksum.
     pub fn payload(&self) -> &[u8]
-        ensures bytes { result.now ≡ drop 8 self.now }
+        ensures bytes { result.now ≡ drop SUM_BYTES self.now }
         ensures len { length result.now ≡ PAYLOAD_BYTES }
     {
-        let (_, payload) = self.bytes.as_slice().split_at(8);
+        let (_, payload) = self.bytes.as_slice().split_at(SUM_BYTES);
         payload
     }
 
     /// The bytes behind the checksum, for writing.
     pub fn payload_mut(&mut self) -> &mut [u8]
         ensures* lends { sem 𝓛 (LendsPayload self.entry result) }
-        ensures bytes { result.now ≡ drop 8 self.old }
+        ensures bytes { result.now ≡ drop SUM_BYTES self.old }
         ensures len { length result.now ≡ PAYLOAD_BYTES }
     {
-        self.bytes.slice_mut(8..)
+        self.bytes.slice_mut(SUM_BYTES..)
     }
 
     /// All bytes.

@@ -3,29 +3,29 @@ ghost use Rattle.std.specs.Prelude.{◌≡◌, ◌⊎◌, ◌≤◌, ◌++◌, �
 ghost use Rattle.std.proofs.Common.{option_map};
 ghost use Rattle.dk_fault.specs.Causes.{HasCause, HasCauseIf};
 ghost use Rattle.dk_device.specs.Disk.{overlaid};
-ghost use Rattle.dk_device.specs.declared.device.FileId.{FileId};
 ghost use Rattle.dk_device.specs.declared.device.FileId.TheVariants.{Main, Wal};
-ghost use Rattle.dk_header.specs.LogLayout.{log_header_bytes};
 ghost use Rattle.dk_block_file.specs.Blocks.{empty_main, FrontOrHeader};
-ghost use Rattle.dk_block_file.specs.Effects.{IsCreated};
+ghost use Rattle.dk_block_file.specs.Effects.{IsCreated, HasNewLog, WritesFiles, MakesWithMemory};
 ghost use Rattle.dk_block_file.specs.Calls.{log_creation, creation};
-ghost use Rattle.dk_device.specs.Calls.{Did, Stopped};
-ghost use Rattle.dk_device.specs.Changes.{IsSynced, Earlier, Changes};
+ghost use Rattle.dk_device.specs.Calls.{Makes};
+ghost use Rattle.dk_device.specs.Changes.{Earlier, ChangesAlone};
 
 use crate::BlockFault;
-use crate::layout::HEADERS_BYTES;
 use dk_device::{Disk, Failed, FileId, cut_synced, write_synced};
-use dk_header::{DbHeader, LOG_HEADER_BYTES, NO_ROOT, VERSION, body_of, log_header, main_header};
+use dk_header::{
+    DbHeader, HEADER_BYTES, NO_ROOT, OPEN_GATE, VERSION, body_of, log_header, main_header,
+};
 use std::alloc::{AllocError as OutOfMemory, Global};
 
 /// A main header, a database header with an open gate, and one of zeros.
 fn joined(alloc: Global, main: &[u8], body: &[u8]) -> Result<Vec<u8>, OutOfMemory>
-    ensures { IfOk result (λ bytes. bytes.items ≡ main.now ++ body.now ++ 1 ∷ [] ++ replicate 4096 0) }
+    ensures { IfOk result (λ bytes. bytes.items ≡
+        main.now ++ body.now ++ OPEN_GATE ∷ [] ++ replicate HEADER_BYTES 0) }
 {
     let mut bytes = main.to_vec(alloc)?;
     bytes.extend_from_slice(body)?;
-    bytes.push(1)?;
-    bytes.extend_from_slice(&[0; 4096])?;
+    bytes.push(OPEN_GATE)?;
+    bytes.extend_from_slice(&[0; HEADER_BYTES])?;
     Ok(bytes)
 }
 
@@ -43,17 +43,9 @@ fn empty_bytes(alloc: Global) -> Result<Vec<u8>, OutOfMemory>
 
 /// A log without records.
 fn new_log<D: Disk>(disk: &mut D) -> Result<(), Failed>
-    ensures content { OnOk result (IfSome (D.content disk.new Wal) (λ wal. wal ≡ log_header_bytes 1)) }
-    ensures extent { OnOk result (D.extent disk.new Wal ≡ LOG_HEADER_BYTES) }
-    ensures synced { OnOk result (IsSynced D.Disk disk.new Wal) }
-    ensures main { D.content disk.new Main ≡ D.content disk.old Main }
-    ensures changes { Changes D.Disk FrontOrHeader Wal disk.old disk.new }
-    ensures main_extent { D.extent disk.new Main ≡ D.extent disk.old Main }
-    ensures earlier { Earlier D.Disk disk.old disk.new }
-    ensures called { OnOk result (Did log_creation (D.time disk.old) (D.calls disk.old) (D.time disk.new)
-        (D.calls disk.new)) }
-    ensures stopped { OnErr result
-        (Stopped log_creation (D.time disk.old) (D.calls disk.old) (D.time disk.new) (D.calls disk.new)) }
+    ensures log { OnOk result (HasNewLog D.Disk disk.new) }
+    ensures alone { ChangesAlone D.Disk FrontOrHeader Wal disk.old disk.new }
+    ensures calls { Makes D.Disk log_creation disk.old disk.new result }
     ensures cause { HasCause (D.faults disk.old) (D.faults disk.new) result }
 {
     let header = log_header(1);
@@ -65,18 +57,10 @@ fn new_log<D: Disk>(disk: &mut D) -> Result<(), Failed>
 /// The log first, and then the headers.
 fn create_files<D: Disk>(disk: &mut D, main: &[u8]) -> Result<(), Failed>
     requires { main.now ≡ empty_main }
-    ensures main { OnOk result (D.content disk.new Main ≡ option_map (overlaid 0 empty_main)
-        (D.content disk.old Main)) }
-    ensures extent { OnOk result (D.extent disk.new Main ≡ max (D.extent disk.old Main) HEADERS_BYTES) }
+    ensures files { OnOk result (WritesFiles D.Disk disk.old disk.new) }
     ensures no_shorter { D.extent disk.old Main ≤ D.extent disk.new Main }
-    ensures wal { OnOk result (IfSome (D.content disk.new Wal) (λ wal. wal ≡ log_header_bytes 1)) }
-    ensures log_extent { OnOk result (D.extent disk.new Wal ≡ LOG_HEADER_BYTES) }
-    ensures synced { OnOk result ((f : FileId) → IsSynced D.Disk disk.new f) }
     ensures earlier { Earlier D.Disk disk.old disk.new }
-    ensures called { OnOk result (Did creation (D.time disk.old) (D.calls disk.old) (D.time disk.new)
-        (D.calls disk.new)) }
-    ensures stopped { OnErr result
-        (Stopped creation (D.time disk.old) (D.calls disk.old) (D.time disk.new) (D.calls disk.new)) }
+    ensures calls { Makes D.Disk creation disk.old disk.new result }
     ensures cause { HasCause (D.faults disk.old) (D.faults disk.new) result }
 {
     new_log(disk)?;
@@ -89,13 +73,11 @@ pub fn create<D: Disk>(alloc: Global, disk: &mut D) -> Result<(), BlockFault>
     ensures created { OnOk result (IsCreated D.Disk disk.old disk.new) }
     ensures no_shorter { D.extent disk.old Main ≤ D.extent disk.new Main }
     ensures earlier { Earlier D.Disk disk.old disk.new }
-    ensures called { OnOk result (Did creation (D.time disk.old) (D.calls disk.old) (D.time disk.new)
-        (D.calls disk.new)) }
-    ensures stopped { result ≡ Err BlockFault.DiskFault →
-        Stopped creation (D.time disk.old) (D.calls disk.old) (D.time disk.new) (D.calls disk.new) }
-    ensures memory { result ≡ Err BlockFault.OutOfMemory → disk.new ≡ disk.old }
-    ensures faults { IfErr result (λ e. (e ≡ BlockFault.DiskFault) ⊎ (e ≡ BlockFault.OutOfMemory)) }
-    ensures cause { HasCauseIf (D.faults disk.old) (D.faults disk.new) (result ≡ Err BlockFault.DiskFault) }
+    ensures calls { MakesWithMemory D.Disk creation disk.old disk.new result }
+    ensures faults { IfErr result
+        (λ e. (e ≡ BlockFault.DiskFault) ⊎ (e ≡ BlockFault.OutOfMemory)) }
+    ensures cause { HasCauseIf (D.faults disk.old) (D.faults disk.new)
+        (result ≡ Err BlockFault.DiskFault) }
 {
     let bytes = empty_bytes(alloc)?;
     create_files(disk, bytes.as_slice())?;

@@ -1,5 +1,7 @@
 //! A database made, written and flipped on a disk in memory that fails, and on real files.
-ghost use Rattle.std.specs.Prelude.{◌≤◌};
+//!
+//! The calls are made through functions over any disk without a contract of their own, since what they say of a disk
+//! in memory is long.
 ghost use Rattle.dk_device.specs.declared.device.FileId.TheVariants.{Main};
 ghost use Rattle.dk_device.specs.Changes.{images_of};
 ghost use Rattle.dk_block_file.specs.Current.{HasHeaders};
@@ -10,89 +12,73 @@ use crate::{
     read_block, write_block,
 };
 use dk_device::{Choice, Disk, Failed, FileId, HostDisk, MemoryDisk};
-use dk_header::{DbHeader, LOG_HEADER_BYTES, NO_ROOT, choose, log_header};
+use dk_header::{DbHeader, HEADER_BYTES, LOG_HEADER_BYTES, NO_ROOT, SUM_BYTES, choose, log_header};
 use dk_types::Damage;
 use std::alloc::{AllocError, Global};
 use std::fs;
 use std::process::Abort;
 use std::test::Fail;
 
-fn disk_of(alloc: Global, failing: &[u64]) -> Result<MemoryDisk, AllocError> {
-    Ok(MemoryDisk::new(Vec::new(alloc), Vec::new(alloc), failing.to_vec(alloc)?))
+fn disk_of(alloc: Global, wal: &[u8], failing: &[u64]) -> Result<MemoryDisk, AllocError> {
+    Ok(MemoryDisk::new(Vec::new(alloc), wal.to_vec(alloc)?, failing.to_vec(alloc)?))
 }
 
 fn lengths<D: Disk>(disk: &D) -> (u64, u64, u64) {
     (disk.moment(), disk.len(FileId::Main), disk.len(FileId::Wal))
 }
 
-/// The calls are made through functions without a contract of their own, since what they say of a disk in memory is
-/// long.
 fn make<D: Disk>(alloc: Global, disk: &mut D) -> Result<(), BlockFault> {
     create(alloc, disk)
 }
 
-fn read<D: Disk>(disk: &mut D, block: u64, buf: &mut BlockBuf) -> Result<(), BlockFault> {
-    read_block(disk, block, buf)
+/// The first two bytes of a block's payload, as they read.
+fn first_two<D: Disk>(disk: &mut D, at: u64, buf: &mut BlockBuf) -> Result<(u8, u8), BlockFault> {
+    read_block(disk, at, buf)?;
+    match buf.payload() {
+        [first, second, ..] => Ok((*first, *second)),
+        _ => Err(BlockFault::OutOfMemory),
+    }
 }
 
-fn write_first<D: Disk>(disk: &mut D, buf: &mut BlockBuf) -> Result<(), BlockFault> {
+/// Makes a database and writes its first block, whose payload begins with 5.
+fn make_block<D: Disk>(alloc: Global, disk: &mut D, buf: &mut BlockBuf) -> Result<(), BlockFault> {
+    make(alloc, disk)?;
     if disk.len(FileId::Main) < HEADERS_BYTES {
         return Err(BlockFault::DiskFault);
     }
+    buf.payload_mut()[0] = 5;
     write_block(disk, 0, buf)
-}
-
-fn block_with(alloc: Global, first: u8) -> Result<BlockBuf, AllocError> {
-    let mut block = BlockBuf::new(alloc)?;
-    block.payload_mut()[0] = first;
-    Ok(block)
-}
-
-fn first_two(block: &BlockBuf) -> Option<(u8, u8)> {
-    match block.payload() {
-        [first, second, ..] => Some((*first, *second)),
-        _ => None,
-    }
 }
 
 #[test]
 fn a_block_reads_as_written(rt: HostRuntime) -> Result<(), Fail> {
-    let mut disk = disk_of(rt.alloc(), &[])?;
-    make(rt.alloc(), &mut disk)?;
-    assert_eq!(rt; lengths(&disk), (6, HEADERS_BYTES, 24));
-    let mut block = block_with(rt.alloc(), 5)?;
-    write_first(&mut disk, &mut block)?;
-    assert_eq!(rt; lengths(&disk), (7, HEADERS_BYTES + BLOCK_BYTES, 24));
-    let mut again = BlockBuf::new(rt.alloc())?;
-    read(&mut disk, 0, &mut again)?;
-    assert_eq!(rt; first_two(&again), Some((5, 0)));
-    let outside = Damage::Outside {
+    let mut disk = disk_of(rt.alloc(), &[], &[])?;
+    let mut block = BlockBuf::new(rt.alloc())?;
+    make_block(rt.alloc(), &mut disk, &mut block)?;
+    block.clear();
+    let read = first_two(&mut disk, 0, &mut block);
+    assert_eq!(rt; read, Ok((5, 0)));
+    let outside = first_two(&mut disk, 1, &mut block);
+    let damage = Damage::Outside {
         block: 1,
         blocks: 1,
     };
-    assert_eq!(rt;
-        read(&mut disk, 1, &mut again),
-        Err(BlockFault::Damaged(outside))
-    );
+    assert_eq!(rt; outside, Err(BlockFault::Damaged(damage)));
     Ok(())
 }
 
-/// Writes one byte of the first block's payload past its checksum.
+/// Changes the first byte of the first block's payload past its checksum.
 fn spoil<D: Disk>(disk: &mut D) -> Result<(), Failed> {
-    if disk.len(FileId::Main) < 12_400 {
+    let place = HEADERS_BYTES + SUM_BYTES as u64;
+    if disk.len(FileId::Main) < place {
         return Err(Failed);
     }
-    disk.write_at(FileId::Main, 12_400, &[1])
+    disk.write_at(FileId::Main, place, &[1])
 }
 
-#[test]
-fn a_changed_block_is_found(rt: HostRuntime) -> Result<(), Fail> {
-    let mut disk = disk_of(rt.alloc(), &[])?;
-    make(rt.alloc(), &mut disk)?;
-    let mut block = block_with(rt.alloc(), 5)?;
-    write_first(&mut disk, &mut block)?;
-    spoil(&mut disk)?;
-    let found = match read(&mut disk, 0, &mut block) {
+/// Whether a read of the first block names two checksums that differ.
+fn is_spoiled(read: Result<(u8, u8), BlockFault>) -> bool {
+    match read {
         Err(
             BlockFault::Damaged(
                 Damage::Sum {
@@ -103,14 +89,23 @@ fn a_changed_block_is_found(rt: HostRuntime) -> Result<(), Fail> {
             ),
         ) => block == 0 && stored != computed,
         _ => false,
-    };
-    assert!(rt; found);
+    }
+}
+
+#[test]
+fn a_changed_block_is_found(rt: HostRuntime) -> Result<(), Fail> {
+    let mut disk = disk_of(rt.alloc(), &[], &[])?;
+    let mut block = BlockBuf::new(rt.alloc())?;
+    make_block(rt.alloc(), &mut disk, &mut block)?;
+    spoil(&mut disk)?;
+    let read = first_two(&mut disk, 0, &mut block);
+    assert!(rt; is_spoiled(read));
     Ok(())
 }
 
 /// How far `create` comes on a disk that fails at a moment, and whether it answers a fault.
 fn create_failing(alloc: Global, moment: u64) -> Result<(u64, bool), AllocError> {
-    let mut disk = disk_of(alloc, &[moment])?;
+    let mut disk = disk_of(alloc, &[], &[moment])?;
     let fails = make(alloc, &mut disk) == Err(BlockFault::DiskFault);
     Ok((disk.moment(), fails))
 }
@@ -124,111 +119,54 @@ fn each_failed_call_ends_the_creation(rt: HostRuntime) -> Result<(), Fail> {
     Ok(())
 }
 
-/// The iteration of the current header in an image.
-fn iteration(main: &[u8]) -> Option<u64> {
-    if main.len() < 12_288 {
-        return None;
-    }
-    let mut first = [0; 4096];
-    let mut second = [0; 4096];
-    first.copy_from_slice(&main[4096..8192]);
-    second.copy_from_slice(&main[8192..12_288]);
-    match choose(&first, &second) {
-        Ok(current) => Some(current.header.iteration),
-        Err(_) => None,
-    }
-}
-
-/// Whether the images of all moments from one up to another have this iteration.
-fn have_iteration(
+/// The image of a moment, which is past.
+fn image_of(
     disk: &MemoryDisk,
-    moments: (u64, u64),
+    moment: u64,
     choice: Choice,
-    expected: Option<u64>,
-) -> Result<bool, AllocError>
-    requires { moments.0 ≤ moments.1 }
-{
-    let (from, end) = moments;
-    for moment in from..end {
-        if moment > disk.moment() {
-            return Ok(false);
-        }
-        let image = disk.image_at(moment, choice)?;
-        if iteration(image.0.as_slice()) != expected {
-            return Ok(false);
-        }
+) -> Result<(Vec<u8>, Vec<u8>), AllocError> {
+    if moment > disk.moment() {
+        return Err(AllocError);
     }
-    Ok(true)
+    disk.image_at(moment, choice)
 }
 
-/// The lengths of the log in the images of all moments of a creation.
-fn log_lengths(disk: &MemoryDisk, choice: Choice) -> Result<[usize; 7], AllocError> {
-    let mut lengths = [0; 7];
-    for moment in 0..7 {
-        if moment as u64 <= disk.moment() {
-            let image = disk.image_at(moment as u64, choice)?;
-            lengths[moment] = image.1.len();
-        }
+/// The iteration of the current header in an image, or 0 where none is current.
+fn iteration(main: &[u8]) -> u64 {
+    let mut first = [0; HEADER_BYTES];
+    let mut second = [0; HEADER_BYTES];
+    if main.len() < 3 * HEADER_BYTES {
+        return 0;
     }
-    Ok(lengths)
+    first.copy_from_slice(&main[HEADER_BYTES..2 * HEADER_BYTES]);
+    second.copy_from_slice(&main[2 * HEADER_BYTES..3 * HEADER_BYTES]);
+    match choose(&first, &second) {
+        Ok(current) => current.header.iteration,
+        Err(_) => 0,
+    }
 }
 
-#[test]
-fn a_crash_inside_the_creation_leaves_a_header_or_none(rt: HostRuntime) -> Result<(), Fail> {
-    let mut disk = disk_of(rt.alloc(), &[])?;
-    make(rt.alloc(), &mut disk)?;
-    let torn = Choice::Torn { byte: 7 };
-    assert!(rt; have_iteration(&disk, (0, 5), Choice::Kept, None)?);
-    assert!(rt; have_iteration(&disk, (5, 7), Choice::Kept, Some(1))?);
-    assert!(rt; have_iteration(&disk, (0, 6), Choice::Lost, None)?);
-    assert!(rt; have_iteration(&disk, (6, 7), Choice::Lost, Some(1))?);
-    assert!(rt; have_iteration(&disk, (0, 6), torn, None)?);
-    assert!(rt; have_iteration(&disk, (6, 7), torn, Some(1))?);
-    assert_eq!(rt;
-        log_lengths(&disk, Choice::Kept)?,
-        [0, 0, 0, 24, 24, 24, 24]
-    );
-    assert_eq!(rt; log_lengths(&disk, Choice::Lost)?, [0, 0, 0, 0, 24, 24, 24]);
+/// Checks the iterations of the images of the first moments.
+fn check_iterations(
+    rt: &impl Abort,
+    disk: &MemoryDisk,
+    choice: Choice,
+    expected: &[u64],
+) -> Result<(), AllocError> {
+    for moment in 0..expected.len() {
+        let image = image_of(disk, moment as u64, choice)?;
+        assert_eq!(rt; iteration(image.0.as_slice()), expected[moment]);
+    }
     Ok(())
 }
 
-/// Whether an image of the log is a front of what it was, or no longer than a header.
-fn is_front_or_header(image: &[u8], old: &[u8]) -> bool {
-    image.len() <= LOG_HEADER_BYTES || old.starts_with(image)
-}
-
-/// Whether an old log is so at each moment of a creation that cuts it, and has a header of its own at the end.
-fn is_cut(disk: &MemoryDisk, old: &[u8], choice: Choice) -> Result<bool, AllocError> {
-    let mut cut = true;
-    for moment in 0..7 {
-        if moment <= disk.moment() {
-            let image = disk.image_at(moment, choice)?;
-            cut = cut && is_front_or_header(image.1.as_slice(), old);
-            cut = cut && (moment < 6 || image.1.as_slice() == log_header(1).as_slice());
-        }
-    }
-    Ok(cut)
-}
-
-#[test]
-fn an_old_log_is_as_it_was_or_empty(rt: HostRuntime) -> Result<(), Fail> {
-    let alloc = rt.alloc();
-    let old = [9; 60];
-    let mut disk = MemoryDisk::new(Vec::new(alloc), old.to_vec(alloc)?, Vec::new(alloc));
-    make(alloc, &mut disk)?;
-    assert!(rt; is_cut(&disk, &old, Choice::Kept)?);
-    assert!(rt; is_cut(&disk, &old, Choice::Lost)?);
-    assert!(rt; is_cut(&disk, &old, Choice::Torn { byte: 7 })?);
-    Ok(())
-}
-
-/// Makes twin 1 the current one.
-fn flip_second<D: Disk>(disk: &mut D) -> Result<(), BlockFault>
+/// Makes twin 1 the current one, with this iteration.
+fn flip_to<D: Disk>(disk: &mut D, iteration: u64) -> Result<(), BlockFault>
     requires headers { HasHeaders D.Disk disk.old }
     requires closed { IsClosed 1 (images_of D.Disk disk.old Main) }
 {
     let header = DbHeader {
-        iteration: 2,
+        iteration,
         root: NO_ROOT,
         blocks: 0,
     };
@@ -249,7 +187,12 @@ fn flip_again<D: Disk>(disk: &mut D) -> Result<(), BlockFault>
     };
     let _ = flip_close(disk, 1, false);
     let _ = flip_body(disk, 1, &header);
-    flip_second(disk)
+    flip_to(disk, 2)
+}
+
+fn make_flipped<D: Disk>(alloc: Global, disk: &mut D) -> Result<(), BlockFault> {
+    create(alloc, disk)?;
+    flip_to(disk, 2)
 }
 
 fn make_flipped_again<D: Disk>(alloc: Global, disk: &mut D) -> Result<(), BlockFault> {
@@ -257,80 +200,92 @@ fn make_flipped_again<D: Disk>(alloc: Global, disk: &mut D) -> Result<(), BlockF
     flip_again(disk)
 }
 
-/// How far two flips come on a disk that fails at a moment of the first.
-fn flip_failing(alloc: Global, moment: u64) -> Result<(u64, Option<u64>), Fail> {
-    let mut disk = disk_of(alloc, &[moment])?;
+#[test]
+fn a_crash_leaves_no_header_or_one_of_two(rt: HostRuntime) -> Result<(), Fail> {
+    let mut disk = disk_of(rt.alloc(), &[], &[])?;
+    make_flipped(rt.alloc(), &mut disk)?;
+    let closed = Choice::Torn { byte: 7 };
+    let open = Choice::Torn { byte: 1 };
+    check_iterations(
+        &rt,
+        &disk,
+        Choice::Kept,
+        &[0, 0, 0, 0, 0, 1, 1, 1, 1, 1, 1, 2, 2],
+    )?;
+    check_iterations(
+        &rt,
+        &disk,
+        Choice::Lost,
+        &[0, 0, 0, 0, 0, 0, 1, 1, 1, 1, 1, 1, 2],
+    )?;
+    check_iterations(&rt, &disk, closed, &[0, 0, 0, 0, 0, 0, 1, 1, 1, 1, 1, 1, 2])?;
+    check_iterations(&rt, &disk, open, &[0, 0, 0, 0, 0, 0, 1, 1, 1, 1, 1, 2, 2])?;
+    Ok(())
+}
+
+/// How far two flips come on a disk that fails at a moment of the first, and what a crash then leaves.
+fn flip_failing(alloc: Global, moment: u64) -> Result<(u64, u64), Fail> {
+    let mut disk = disk_of(alloc, &[], &[moment])?;
     make_flipped_again(alloc, &mut disk)?;
     let end = disk.moment();
-    let image = disk.image_at(end, Choice::Lost)?;
+    let image = image_of(&disk, end, Choice::Lost)?;
     Ok((end, iteration(image.0.as_slice())))
 }
 
 #[test]
 fn a_flip_goes_on_after_a_fault(rt: HostRuntime) -> Result<(), Fail> {
-    assert_eq!(rt; flip_failing(rt.alloc(), 6)?, (15, Some(2)));
-    assert_eq!(rt; flip_failing(rt.alloc(), 7)?, (16, Some(2)));
-    assert_eq!(rt; flip_failing(rt.alloc(), 8)?, (15, Some(2)));
-    assert_eq!(rt; flip_failing(rt.alloc(), 9)?, (16, Some(2)));
+    for (moment, end) in [(6, 15), (7, 16), (8, 15), (9, 16)] {
+        assert_eq!(rt; flip_failing(rt.alloc(), moment)?, (end, 2));
+    }
     Ok(())
 }
 
-fn make_flipped<D: Disk>(alloc: Global, disk: &mut D) -> Result<(), BlockFault> {
-    create(alloc, disk)?;
-    flip_second(disk)
+/// Whether an image of the log is a front of what it was, or no longer than a header.
+fn is_front_or_header(image: &[u8], old: &[u8]) -> bool {
+    image.len() <= LOG_HEADER_BYTES || old.starts_with(image)
 }
 
-/// An empty database whose second twin was made the current one.
-fn flipped(alloc: Global) -> Result<MemoryDisk, Fail> {
-    let mut disk = disk_of(alloc, &[])?;
-    make_flipped(alloc, &mut disk)?;
-    Ok(disk)
-}
-
-#[test]
-fn a_crash_inside_a_flip_leaves_one_of_two_headers(rt: HostRuntime) -> Result<(), Fail> {
-    let disk = flipped(rt.alloc())?;
-    assert_eq!(rt; lengths(&disk), (12, HEADERS_BYTES, 24));
-    assert!(rt; have_iteration(&disk, (6, 11), Choice::Kept, Some(1))?);
-    assert!(rt; have_iteration(&disk, (11, 13), Choice::Kept, Some(2))?);
-    assert!(rt; have_iteration(&disk, (6, 12), Choice::Lost, Some(1))?);
-    assert!(rt; have_iteration(&disk, (12, 13), Choice::Lost, Some(2))?);
+/// Checks that an old log is so at each moment of a creation, and has a header of its own behind it.
+fn check_log(
+    rt: &impl Abort,
+    disk: &MemoryDisk,
+    choice: Choice,
+    old: &[u8],
+) -> Result<(), AllocError> {
+    for moment in 0..6 {
+        let image = image_of(disk, moment, choice)?;
+        assert!(rt; is_front_or_header(image.1.as_slice(), old));
+    }
+    let end = image_of(disk, 6, choice)?;
+    assert_eq!(rt; end.1.as_slice(), log_header(1).as_slice());
     Ok(())
 }
 
 #[test]
-fn a_torn_gate_is_open_or_closed(rt: HostRuntime) -> Result<(), Fail> {
-    let disk = flipped(rt.alloc())?;
-    let closed = Choice::Torn { byte: 7 };
-    let open = Choice::Torn { byte: 1 };
-    assert!(rt; have_iteration(&disk, (6, 12), closed, Some(1))?);
-    assert!(rt; have_iteration(&disk, (12, 13), closed, Some(2))?);
-    assert!(rt; have_iteration(&disk, (6, 11), open, Some(1))?);
-    assert!(rt; have_iteration(&disk, (11, 13), open, Some(2))?);
-    Ok(())
-}
-
-fn host(rt: &HostRuntime, path: &str) -> Result<HostDisk, AllocError> {
-    HostDisk::at_path(rt, String::from_str(rt.alloc(), path)?)
-}
-
-fn leave_a_block(rt: &HostRuntime, path: &str) -> Result<(), Fail> {
-    let mut disk = host(rt, path)?;
+fn an_old_log_is_as_it_was_or_empty(rt: HostRuntime) -> Result<(), Fail> {
+    let old = [9; 60];
+    let mut disk = disk_of(rt.alloc(), &old, &[])?;
     make(rt.alloc(), &mut disk)?;
-    let mut block = block_with(rt.alloc(), 9)?;
-    write_first(&mut disk, &mut block)?;
+    check_log(&rt, &disk, Choice::Kept, &old)?;
+    check_log(&rt, &disk, Choice::Lost, &old)?;
+    check_log(&rt, &disk, Choice::Torn { byte: 7 }, &old)?;
     Ok(())
+}
+
+fn host(rt: &HostRuntime) -> Result<HostDisk, AllocError> {
+    HostDisk::at_path(rt, String::from_str(rt.alloc(), "dk_block_file_test.db")?)
 }
 
 #[test]
 fn a_block_of_a_real_file_is_found_again(rt: HostRuntime) -> Result<(), Fail> {
     let _ = fs::remove_file(&rt, "dk_block_file_test.db");
     let _ = fs::remove_file(&rt, "dk_block_file_test.db.wal");
-    leave_a_block(&rt, "dk_block_file_test.db")?;
-    let mut again = host(&rt, "dk_block_file_test.db")?;
-    assert_eq!(rt; lengths(&again), (0, HEADERS_BYTES + BLOCK_BYTES, 24));
     let mut block = BlockBuf::new(rt.alloc())?;
-    read(&mut again, 0, &mut block)?;
-    assert_eq!(rt; first_two(&block), Some((9, 0)));
+    make_block(rt.alloc(), &mut host(&rt)?, &mut block)?;
+    block.clear();
+    let mut again = host(&rt)?;
+    assert_eq!(rt; lengths(&again), (0, HEADERS_BYTES + BLOCK_BYTES, 24));
+    let read = first_two(&mut again, 0, &mut block);
+    assert_eq!(rt; read, Ok((5, 0)));
     Ok(())
 }

@@ -57,7 +57,8 @@ impl BlockMan {
     pub fn mark(&mut self, block: u64) -> bool
         requires { block < self.old.blocks }
         ensures was { result ≡ not (is_among self.old.used block) }
-        ensures marked { self.new.used ≡ (if result then with_block block self.old.used else self.old.used) }
+        ensures marked { self.new.used
+            ≡ (if result then with_block block self.old.used else self.old.used) }
         ensures others { (k : ℕ) → is_among self.new.used k ≡
             (if k == block then true else is_among self.old.used k) }
         ensures within { AreBelow self.new.blocks self.new.used }

@@ -21,7 +21,8 @@ pub(crate) fn first_unused(flags: &[bool], from: usize) -> usize
 pub(crate) fn set_flag(flags: &mut Vec<bool>, block: usize) -> Result<(), OutOfMemory>
     requires within { AllUsed block flags.old.items }
     requires unused { block < length flags.old.items → get_or flags.old.items block false ≡ false }
-    ensures used { OnOk result (used_of flags.new.items ≡ with_block block (used_of flags.old.items)) }
+    ensures used { OnOk result
+        (used_of flags.new.items ≡ with_block block (used_of flags.old.items)) }
     ensures len { OnOk result (length flags.new.items ≡ max (length flags.old.items) (block + 1)) }
     ensures all { OnOk result (AllUsed (block + 1) flags.new.items) }
     ensures err { OnErr result (flags.new.items ≡ flags.old.items) }

@@ -3,7 +3,7 @@ ghost use Rattle.std.specs.Prelude.{◌≡◌};
 ghost use Rattle.dk_header.specs.Layout.{higher_of, current_of, choice_of};
 
 use crate::decode::read_twin;
-use crate::header::{Current, DbHeader};
+use crate::header::{Current, DbHeader, HEADER_BYTES};
 use dk_types::Damage;
 
 /// The one of two open headers with the higher iteration.
@@ -50,7 +50,7 @@ fn current(first: Option<DbHeader>, second: Option<DbHeader>) -> Result<Current,
 }
 
 /// The current header of the two, or what is wrong with them: first of twin 0, then of twin 1, then of both.
-pub fn choose(h0: &[u8; 4096], h1: &[u8; 4096]) -> Result<Current, Damage>
+pub fn choose(h0: &[u8; HEADER_BYTES], h1: &[u8; HEADER_BYTES]) -> Result<Current, Damage>
     ensures { result ≡ choice_of h0.now h1.now }
 {
     let first = read_twin(0, h0)?;

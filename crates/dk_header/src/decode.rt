@@ -5,7 +5,10 @@ ghost use Rattle.std.specs.Int.{w32, w64, from_le_bytes};
 ghost use Rattle.dk_bytes.specs.Checksum.{checksum_of};
 ghost use Rattle.dk_header.specs.Layout.{number_at, version_at, first_nonzero, main_read, body_read, twin_read};
 
-use crate::header::{DbHeader, MAGIC, MOST_ITERATIONS, MainFault};
+use crate::header::{
+    BLOCKS_PLACE, BODY_BYTES, BODY_FIELDS_END, DbHeader, HEADER_BYTES, ITERATION_PLACE, MAGIC,
+    MAIN_FIELDS_END, MOST_ITERATIONS, MainFault, OPEN_GATE, ROOT_PLACE, SUM_BYTES, VERSION_PLACE,
+};
 use dk_bytes::checksum;
 use dk_types::{Damage, Part};
 
@@ -15,9 +18,7 @@ fn word_at(bytes: &[u8], at: usize) -> u64
     ensures { result ≡ number_at at bytes.now }
 {
     let (_, rest) = bytes.split_at(at);
-    u64::from_le_bytes([
-        rest[0], rest[1], rest[2], rest[3], rest[4], rest[5], rest[6], rest[7],
-    ])
+    dk_bytes::word_of(rest)
 }
 
 /// The number of four bytes at a place.
@@ -49,29 +50,29 @@ fn nonzero_from(bytes: &[u8], from: usize) -> Option<u64>
 }
 
 fn sum_behind(bytes: &[u8]) -> u64
-    requires { 8 ≤ length bytes.now }
-    ensures { result ≡ checksum_of (drop 8 bytes.now) }
+    requires { SUM_BYTES ≤ length bytes.now }
+    ensures { result ≡ checksum_of (drop SUM_BYTES bytes.now) }
 {
-    let (_, rest) = bytes.split_at(8);
+    let (_, rest) = bytes.split_at(SUM_BYTES);
     checksum(rest)
 }
 
 /// The version that a main header names, whatever its other bytes are.
-pub fn version_of(bytes: &[u8; 4096]) -> u64
+pub fn version_of(bytes: &[u8; HEADER_BYTES]) -> u64
     ensures version { result ≡ version_at bytes.now }
     ensures read { (version : ℕ) → main_read bytes.now ≡ Ok version → result ≡ version }
 {
-    word_at(bytes, 12)
+    word_at(bytes, VERSION_PLACE)
 }
 
 /// The version of a main header.
-pub fn read_main(bytes: &[u8; 4096]) -> Result<u64, MainFault>
+pub fn read_main(bytes: &[u8; HEADER_BYTES]) -> Result<u64, MainFault>
     ensures { result ≡ main_read bytes.now }
 {
-    if word_at(bytes, 0) != sum_behind(bytes) || half_at(bytes, 8) != MAGIC {
+    if word_at(bytes, 0) != sum_behind(bytes) || half_at(bytes, SUM_BYTES) != MAGIC {
         return Err(MainFault::NotADatabase);
     }
-    match nonzero_from(bytes, 20) {
+    match nonzero_from(bytes, MAIN_FIELDS_END) {
         Some(at) => Err(MainFault::Malformed { at }),
         None => Ok(version_of(bytes)),
     }
@@ -79,7 +80,7 @@ pub fn read_main(bytes: &[u8; 4096]) -> Result<u64, MainFault>
 
 /// A database header without its gate. A place in it counts from behind its checksum.
 fn read_body(twin: u8, body: &[u8]) -> Result<DbHeader, Damage>
-    requires { 32 ≤ length body.now }
+    requires { BODY_FIELDS_END ≤ length body.now }
     ensures { result ≡ body_read twin body.now }
 {
     let stored = word_at(body, 0);
@@ -91,34 +92,34 @@ fn read_body(twin: u8, body: &[u8]) -> Result<DbHeader, Damage>
             computed,
         });
     }
-    let iteration = word_at(body, 8);
+    let iteration = word_at(body, ITERATION_PLACE);
     if iteration == 0 || iteration > MOST_ITERATIONS {
         return Err(Damage::Malformed {
             part: Part::Header,
             at: 0,
         });
     }
-    let (_, string) = body.split_at(8);
-    match nonzero_from(string, 24) {
+    let (_, string) = body.split_at(SUM_BYTES);
+    match nonzero_from(string, BODY_FIELDS_END - SUM_BYTES) {
         Some(at) => Err(Damage::Malformed {
             part: Part::Header,
             at,
         }),
         None => Ok(DbHeader {
             iteration,
-            root: word_at(body, 16),
-            blocks: word_at(body, 24),
+            root: word_at(body, ROOT_PLACE),
+            blocks: word_at(body, BLOCKS_PLACE),
         }),
     }
 }
 
 /// A twin's header, where its gate is open.
-pub(crate) fn read_twin(twin: u8, bytes: &[u8; 4096]) -> Result<Option<DbHeader>, Damage>
+pub(crate) fn read_twin(twin: u8, bytes: &[u8; HEADER_BYTES]) -> Result<Option<DbHeader>, Damage>
     ensures { result ≡ twin_read twin bytes.now }
 {
-    if bytes[4095] != 1 {
+    if bytes[BODY_BYTES] != OPEN_GATE {
         return Ok(None);
     }
-    let (body, _) = bytes.split_at(4095);
+    let (body, _) = bytes.split_at(BODY_BYTES);
     Ok(Some(read_body(twin, body)?))
 }

@@ -1,6 +1,39 @@
 //! What the headers say.
 use thiserror::Error;
 
+/// How many bytes each of the three headers has.
+pub const HEADER_BYTES: usize = 4096;
+
+/// How many bytes of a database header stand before its gate, which is the last one.
+pub const BODY_BYTES: usize = 4095;
+
+/// How many bytes a checksum has, which stands first in a header and in a block.
+pub const SUM_BYTES: usize = 8;
+
+/// Where the version stands in the main header.
+pub const VERSION_PLACE: usize = 12;
+
+/// Where the fields of the main header end, and its zeros begin.
+pub const MAIN_FIELDS_END: usize = 20;
+
+/// Where the iteration stands in a database header.
+pub const ITERATION_PLACE: usize = 8;
+
+/// Where the root stands in a database header.
+pub const ROOT_PLACE: usize = 16;
+
+/// Where the number of blocks stands in a database header.
+pub const BLOCKS_PLACE: usize = 24;
+
+/// Where the fields of a database header end, and its zeros begin.
+pub const BODY_FIELDS_END: usize = 32;
+
+/// The gate of a header that counts.
+pub const OPEN_GATE: u8 = 1;
+
+/// The gate that closes a header.
+pub const CLOSED_GATE: u8 = 0;
+
 /// The magic `DUCK`, as a number with the least byte first.
 pub const MAGIC: u32 = 0x4B43_5544;
 

@@ -16,5 +16,8 @@ mod tests;
 pub use choice::choose;
 pub use decode::{read_main, version_of};
 pub use encode::{body_of, main_header};
-pub use header::{Current, DbHeader, MOST_ITERATIONS, MainFault, NO_ROOT, VERSION};
+pub use header::{
+    BODY_BYTES, CLOSED_GATE, Current, DbHeader, HEADER_BYTES, MOST_ITERATIONS, MainFault, NO_ROOT,
+    OPEN_GATE, SUM_BYTES, VERSION,
+};
 pub use log::{LOG_HEADER_BYTES, log_header};

@@ -1,28 +1,35 @@
 //! Which header is chosen, and where a damaged byte is found.
 ghost use Rattle.std.specs.Prelude.{◌<◌, ◌≤◌};
 
+use crate::header::{BODY_FIELDS_END, MAIN_FIELDS_END};
 use crate::{
-    DbHeader, MainFault, VERSION, body_of, choose, log_header, main_header, read_main, version_of,
+    BODY_BYTES, DbHeader, HEADER_BYTES, MainFault, SUM_BYTES, VERSION, body_of, choose, log_header,
+    main_header, read_main, version_of,
 };
 use dk_bytes::checksum;
 use dk_types::{Damage, Part};
 use std::process::Abort;
 
-const ZEROS: [u8; 4096] = [0; 4096];
+const ZEROS: [u8; HEADER_BYTES] = [0; HEADER_BYTES];
 
-fn open_header(iteration: u64, gate: u8) -> [u8; 4096] {
+fn open_header(iteration: u64, gate: u8) -> [u8; HEADER_BYTES] {
     let body = body_of(&DbHeader {
         iteration,
         root: 7,
         blocks: 9,
     });
-    let mut bytes = [0; 4096];
-    bytes[..4095].copy_from_slice(&body);
-    bytes[4095] = gate;
+    let mut bytes = [0; HEADER_BYTES];
+    bytes[..BODY_BYTES].copy_from_slice(&body);
+    bytes[BODY_BYTES] = gate;
     bytes
 }
 
-fn check(rt: &impl Abort, h0: &[u8; 4096], h1: &[u8; 4096], twin: Result<(u8, bool), Damage>) {
+fn check(
+    rt: &impl Abort,
+    h0: &[u8; HEADER_BYTES],
+    h1: &[u8; HEADER_BYTES],
+    twin: Result<(u8, bool), Damage>,
+) {
     let found = match choose(h0, h1) {
         Ok(current) => Ok((current.twin, current.other_open)),
         Err(damage) => Err(damage),
@@ -49,8 +56,8 @@ fn the_open_twin_with_the_higher_iteration_is_chosen(rt: HostRuntime) {
 }
 
 /// Whether a bit of the body, changed, is found as a wrong checksum.
-fn is_found(good: &[u8; 4096], place: usize, bit: u8) -> bool
-    requires place { place < 4095 }
+fn is_found(good: &[u8; HEADER_BYTES], place: usize, bit: u8) -> bool
+    requires place { place < BODY_BYTES }
     requires bit { bit < 8 }
 {
     let mut bytes = *good;
@@ -64,7 +71,7 @@ fn is_found(good: &[u8; 4096], place: usize, bit: u8) -> bool
 #[test]
 fn each_changed_bit_is_found(rt: HostRuntime) {
     let good = open_header(5, 1);
-    for place in 0..4095 {
+    for place in 0..BODY_BYTES {
         for bit in 0..8 {
             assert!(rt; is_found(&good, place, bit));
         }
@@ -73,46 +80,46 @@ fn each_changed_bit_is_found(rt: HostRuntime) {
 
 /// Whether a body with one byte more that isn't zero, and its checksum, is refused at the byte's place.
 fn is_malformed(place: usize) -> bool
-    requires fields { 32 ≤ place }
-    requires body { place < 4095 }
+    requires fields { BODY_FIELDS_END ≤ place }
+    requires body { place < BODY_BYTES }
 {
     let mut bytes = open_header(5, 1);
     bytes[place] = 1;
-    let sum = checksum(&bytes[8..4095]).to_le_bytes();
-    bytes[..8].copy_from_slice(&sum);
+    let sum = checksum(&bytes[SUM_BYTES..BODY_BYTES]).to_le_bytes();
+    bytes[..SUM_BYTES].copy_from_slice(&sum);
     match choose(&ZEROS, &bytes) {
         Err(
             Damage::Malformed {
                 part: Part::Header,
                 at,
             },
-        ) => at == place as u64 - 8,
+        ) => at == (place - SUM_BYTES) as u64,
         _ => false,
     }
 }
 
 #[test]
 fn each_byte_of_a_body_that_must_be_zero_is_found(rt: HostRuntime) {
-    for place in 32..4095 {
+    for place in BODY_FIELDS_END..BODY_BYTES {
         assert!(rt; is_malformed(place));
     }
 }
 
 /// The same of the main header.
 fn is_malformed_main(place: usize) -> bool
-    requires fields { 20 ≤ place }
-    requires header { place < 4096 }
+    requires fields { MAIN_FIELDS_END ≤ place }
+    requires header { place < HEADER_BYTES }
 {
     let mut bytes = main_header(VERSION);
     bytes[place] = 1;
-    let sum = checksum(&bytes[8..]).to_le_bytes();
-    bytes[..8].copy_from_slice(&sum);
+    let sum = checksum(&bytes[SUM_BYTES..]).to_le_bytes();
+    bytes[..SUM_BYTES].copy_from_slice(&sum);
     read_main(&bytes) == Err(MainFault::Malformed { at: place as u64 })
 }
 
 #[test]
 fn each_byte_of_the_main_header_that_must_be_zero_is_found(rt: HostRuntime) {
-    for place in 20..4096 {
+    for place in MAIN_FIELDS_END..HEADER_BYTES {
         assert!(rt; is_malformed_main(place));
     }
 }

@@ -5,4 +5,5 @@ use Rattle.dk_header.proofs.HeaderLemmas.{main_again}
 use Rattle.dk_header.proofs.encode.main_header.Goals as goal
 
 pub returns-clause-again : goal.returns-clause-again
-returns-clause-again c = subst (λ (bytes : List ℕ). main_read bytes ≡ Ok c.args.version) (sym c.make_main.ensures) (main_again c.args.version c.ranges.version.fits)
+returns-clause-again c = subst (λ (bytes : List ℕ). main_read bytes ≡ Ok c.args.version) (sym c.make_main.ensures)
+    (main_again c.args.version c.ranges.version.fits)

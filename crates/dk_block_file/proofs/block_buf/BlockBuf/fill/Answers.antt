@@ -11,11 +11,15 @@ use Rattle.dk_block_file.proofs.block_buf.BlockBuf.fill.Goals as goal
 
 pub returns-clause-looks : goal.returns-clause-looks
 returns-clause-looks g c =
-    looks_one g.D.Disk c.args.disk.now c.read_at.new.self c.read_at.ensures.content c.read_at.ensures.extent c.read_at.ensures.images c.read_at.ensures.time
+    looks_one g.D.Disk c.args.disk.now c.read_at.new.self c.read_at.ensures.content c.read_at.ensures.extent
+    c.read_at.ensures.images c.read_at.ensures.time
 
 pub returns-clause-calls : goal.returns-clause-calls
 returns-clause-calls g c =
-    let whole : length c.as_mut_slice.result.now ≡ BLOCK_BYTES = ap (λ (l : List ℕ). length l) c.as_mut_slice.ensures.value ∙ c.self.invariant in
-    subst (λ (n : ℕ). Makes g.D.Disk ((Main, Read c.args.at n) ∷ []) c.args.disk.now c.read_at.new.self c.read_at.result) whole
-    (makes_one g.D.Disk (Main, Read c.args.at (length c.as_mut_slice.result.now)) c.args.disk.now c.read_at.new.self c.read_at.result
+    let whole : length c.as_mut_slice.result.now ≡ BLOCK_BYTES =
+    ap (λ (l : List ℕ). length l) c.as_mut_slice.ensures.value ∙ c.self.invariant in
+    subst (λ (n : ℕ). Makes g.D.Disk ((Main, Read c.args.at n) ∷ []) c.args.disk.now c.read_at.new.self
+    c.read_at.result) whole
+    (makes_one g.D.Disk (Main, Read c.args.at (length c.as_mut_slice.result.now)) c.args.disk.now
+    c.read_at.new.self c.read_at.result
     c.read_at.ensures.time.next c.read_at.ensures.called (err_swapped _ _ c.read_at.result c.read_at.ensures.tried))

@@ -5,4 +5,5 @@ use Rattle.dk_block_man.proofs.FlagLemmas.{used-none}
 use Rattle.dk_block_man.proofs.block_man.BlockMan.new.Goals as goal
 
 pub returns-clause-used : goal.returns-clause-used
-returns-clause-used c = ap (λ (l : List Bool). used_of l) (c.in_ok-vec.ensures.items_if_clones_equal (λ y e. e)) ∙ used-none 0 c.args.blocks
+returns-clause-used c = ap (λ (l : List Bool). used_of l) (c.in_ok-vec.ensures.items_if_clones_equal (λ y e. e))
+    ∙ used-none 0 c.args.blocks
