@@ -62,7 +62,7 @@ none_begun : (first : Option Replied) (session place caller number start : ℕ) 
 none_begun None session place caller number start = refl
 none_begun (Some replied) session place caller number start = refl
 
-same_if : {T : Type 0} → (x : T) (here : Bool) → (if here then x else x) ≡ x
+pub same_if : {T : Type 0} → (x : T) (here : Bool) → (if here then x else x) ≡ x
 same_if x true = refl
 same_if x false = refl
 

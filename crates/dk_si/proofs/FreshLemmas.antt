@@ -1,9 +1,8 @@
 -- In a history of one thread a transaction that began in the call in flight sees all commits.
-use Rattle.std.proofs.Common.{◌≡◌, ⊎_elim, ℕ, ◌-◌, ◌<◌, Bool, true, false, List, [], ◌∷◌, ◌++◌, take, drop, length, Option, Some, None, ◌∙◌, sym, refl, subst, slice_get, slice_set}
+use Rattle.std.proofs.Common.{◌≡◌, ⊎_elim, ℕ, ◌-◌, ◌<◌, Bool, true, false, List, [], ◌∷◌, ◌++◌, length, Option, Some, None, refl, subst, slice_get, slice_set}
 use Rattle.std.specs.Prelude.{◌||◌, not, is_none, option_to_list, ◌==◌, if◌then◌else◌}
 use Rattle.std.specs.List.{list_all, list_any}
 use Rattle.std.proofs.lemmas.Bool.{true≢false, false≢true, and_parts, or_from, eq-eqb, eqb-true, not_from_true}
-use Rattle.std.proofs.lemmas.List.Folds.{list_any-append}
 use Rattle.dk_types.specs.declared.net.TableNet.{TableNet}
 use Rattle.dk_types.specs.declared.net.Commit.{Commit}
 use Rattle.dk_types.specs.declared.reply.Receipt.{Receipt}
@@ -22,9 +21,8 @@ use Rattle.dk_si.specs.declared.machine.Session.{Session}
 use Rattle.dk_si.specs.declared.machine.Machine.{Machine}
 use Rattle.dk_si.specs.declared.limits.TheConstants.{SESSIONS}
 use Rattle.dk_si.specs.Machine.{others, first_state, idle, session_at, session_behind, after_aborted, after_call, after_begin, transition, stay_open, end_with, is_own, refusal_transition, aborts, asks_for, change_transition, net_behind, last_transaction, write_set_in_flight, after_reply, next, begins_one}
-use Rattle.dk_si.specs.IsStep.{are_steps, is_step, may_call, may_begin, if_there}
-use Rattle.dk_si.specs.Laws.{state_after}
-use Rattle.dk_si.specs.OneThread.{none_in_flight, is_step_alone, are_steps_alone}
+use Rattle.dk_si.specs.IsStep.{is_step, may_call, may_begin, if_there}
+use Rattle.dk_si.specs.OneThread.{none_in_flight, is_step_alone}
 use Rattle.dk_si.proofs.PlaceLemmas.{set_place, none_other, found_at, same_copies}
 use Rattle.dk_si.proofs.HolderLemmas.{not_both, sees_all}
 
@@ -49,7 +47,7 @@ good_from true e = refl
 good_from false e = absurd (true≢false e)
 
 -- another session has no call in flight
-other_idle : (machine : Machine) (number k : ℕ) (other : Session) → none_in_flight machine number ≡ true → 0 < number
+pub other_idle : (machine : Machine) (number k : ℕ) (other : Session) → none_in_flight machine number ≡ true → 0 < number
     → (k ≡ number - 1 → ⊥) → slice_get machine.sessions k ≡ Some other → is_none other.asked ≡ true
 other_idle machine number k other alone above apart at =
     let test : Session → Bool = λ session. not (is_none session.asked) in
@@ -163,7 +161,7 @@ reply_now opened machine number session (state.Open active) reply all alone abov
     (λ k other apart there now. still_now (length machine.commits) (length commits) other.transaction other.asked
     (other_idle machine number k other alone above apart there) now)
 
-abbrev IsNow : Machine → Type 0
+abbrev pub IsNow : Machine → Type 0
 IsNow machine = AreNow (length machine.commits) machine.sessions
 
 call_step : (machine : Machine) (number : ℕ) (asked : Asked) (found : Option Session) → IsNow machine
@@ -185,7 +183,7 @@ reply_step opened machine number reply None now is alone = now
 reply_step opened machine number reply (Some session) now is alone =
     reply_now opened machine number session session.transaction reply now alone (found_at machine.sessions number session is).1
 
-step_now : (opened : List Table) (before : List Entry) (machine : Machine) (entry : Entry) → IsNow machine
+pub step_now : (opened : List Table) (before : List Entry) (machine : Machine) (entry : Entry) → IsNow machine
     → is_step opened before machine entry ≡ true → is_step_alone opened machine entry ≡ true → IsNow (next opened machine entry)
 step_now opened before machine (history.Call session asked) now step alone = call_step machine session asked (session_at machine.sessions session) now refl step
 step_now opened before machine (history.Begun session number start) now step alone =
@@ -193,18 +191,10 @@ step_now opened before machine (history.Begun session number start) now step alo
 step_now opened before machine (history.Reply session reply) now step alone =
     reply_step opened machine session reply (session_at machine.sessions session) now refl (and_parts (none_in_flight machine session) _ alone).0
 
-steps_now : (opened : List Table) (before : List Entry) (machine : Machine) (entries : List Entry) → IsNow machine
-    → are_steps opened before machine entries ≡ true → are_steps_alone opened machine entries ≡ true → IsNow (state_after opened machine entries)
-steps_now opened before machine [] now steps alone = now
-steps_now opened before machine (entry ∷ entries) now steps alone =
-    let h = and_parts (is_step opened before machine entry) (are_steps opened (before ++ entry ∷ []) (next opened machine entry) entries) steps in
-    let k = and_parts (is_step_alone opened machine entry) (are_steps_alone opened (next opened machine entry) entries) alone in
-    steps_now opened (before ++ entry ∷ []) (next opened machine entry) entries (step_now opened before machine entry now h.0 k.0) h.1 k.1
-
-first_now : IsNow first_state
+pub first_now : IsNow first_state
 first_now place session at = subst (λ (now : Session). Now 0 now.transaction now.asked) (same_copies SESSIONS place idle session at) tt
 
-sees : (commits : List Commit) (transaction : Transaction) (asked : Option Asked) → Now (length commits) transaction asked → sees_all commits transaction ≡ true
+pub sees : (commits : List Commit) (transaction : Transaction) (asked : Option Asked) → Now (length commits) transaction asked → sees_all commits transaction ≡ true
 sees commits state.Outside asked now = refl
 sees commits state.Aborted asked now = refl
 sees commits (state.Open active) asked now = sees_fresh active.fresh active.start (length commits) (λ fresh. (now fresh).0)
@@ -212,12 +202,3 @@ sees commits (state.Open active) asked now = sees_fresh active.fresh active.star
     sees_fresh : (fresh : Bool) (start last : ℕ) → (fresh ≡ true → start ≡ last) → (not fresh || start == last) ≡ true
     sees_fresh true start last is = eq-eqb start last (is refl)
     sees_fresh false start last is = refl
-
-pub all_are_seen : (opened : List Table) (entries : List Entry) (number : ℕ) (session : Session)
-    → are_steps opened [] first_state entries ≡ true → are_steps_alone opened first_state entries ≡ true
-    → session_at (state_after opened first_state entries).sessions number ≡ Some session
-    → sees_all (state_after opened first_state entries).commits session.transaction ≡ true
-all_are_seen opened entries number session steps alone is =
-    let machine = state_after opened first_state entries in
-    sees machine.commits session.transaction session.asked
-    (steps_now opened [] first_state entries first_now steps alone (number - 1) session (found_at machine.sessions number session is).0)

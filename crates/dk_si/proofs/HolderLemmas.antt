@@ -3,7 +3,6 @@ use Rattle.std.proofs.Common.{◌≡◌, ◌⊎◌, inl, inr, ℕ, zero, suc, �
 use Rattle.std.specs.Prelude.{◌&&◌, ◌||◌, not, is_none, min, ◌==◌, nat_lt, if◌then◌else◌}
 use Rattle.std.specs.List.{list_all, list_any}
 use Rattle.std.proofs.lemmas.Bool.{true≢false, false≢true, and_parts, or_parts, or_cases, or_left, or_right, cases_Bool, not-true, eqb-true, eq-eqb, ltb-true, ltb-false}
-use Rattle.std.proofs.lemmas.List.Folds.{list_any-append}
 use Rattle.dk_types.specs.declared.net.Commit.{Commit}
 use Rattle.dk_types.specs.declared.reply.Holder.{Holder}
 use Rattle.dk_types.specs.declared.reply.Holder.TheVariants as who
@@ -33,7 +32,7 @@ pub not_both : {b : Bool} → b ≡ true → b ≡ false → ⊥
 not_both on off = true≢false (sym on ∙ off)
 
 -- none of these rows passes the test and is smaller
-abbrev NoneBelow : (ℕ → Bool) → ℕ → ℕ → Bool
+abbrev pub NoneBelow : (ℕ → Bool) → ℕ → ℕ → Bool
 NoneBelow test row other = not (test other && nat_lt other row)
 
 at_least : (test : ℕ → Bool) (row id : ℕ) → NoneBelow test row id ≡ true → test id ≡ true → row ≤ id

@@ -1,4 +1,3 @@
-pub mod AnswerLemmas
 pub mod ExchangeLemmas
 pub mod FirstCommitterLemmas
 pub mod ForwardLemmas
@@ -10,9 +9,9 @@ pub mod HolderLemmas
 pub mod MeaningLemmas
 pub mod MergedNetLemmas
 pub mod NetLemmas
-pub mod OneHolderLemmas
 pub mod PlaceLemmas
 pub mod PresentLemmas
+pub mod RisingLemmas
 pub mod TestLemmas
 pub mod StandingStateLemmas
 pub mod StandingLemmas

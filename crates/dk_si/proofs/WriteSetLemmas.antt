@@ -1,5 +1,6 @@
 -- The committed rows of a net that a statement's change joins: those that it had, and those that the statement touches.
-use Rattle.std.proofs.Common.{◌≡◌, ◌⊎◌, inl, inr, ⊎_elim, ℕ, Bool, true, false, List, [], ◌∷◌, ◌++◌, map, ap, ◌∙◌, refl, subst}
+use Rattle.std.proofs.Common.{◌≡◌, ◌⊎◌, inl, inr, ⊎_elim, ℕ, Bool, true, false, List, [], ◌∷◌, ◌++◌, map, ap, ◌∙◌, refl}
+use Rattle.std.proofs.Common.{subst}
 use Rattle.std.specs.Prelude.{not, nat_lt, ◌==◌, ◌&&◌, ◌||◌, if◌then◌else◌}
 use Rattle.std.specs.List.{filter, list_any}
 use Rattle.std.proofs.lemmas.Bool.{and_from, and_parts, or_cases, or_left, or_right, eqb-true}
@@ -8,7 +9,8 @@ use Rattle.std.proofs.lemmas.List.Folds.{list_any-append}
 use Rattle.dk_values.specs.declared.value.Value.{Value}
 use Rattle.dk_types.specs.declared.net.TableNet.{TableNet}
 use Rattle.dk_types.specs.Nets.{changes}
-use Rattle.dk_si.specs.Nets.{put_by, put_all, has_id, part_has, net_has, part_of, without, merged_net, merged_part, committed_ids, committed_updates, merged_updates, merged_deletes}
+use Rattle.dk_si.specs.Nets.{put_by, put_all, has_id, part_has, net_has, part_of, without, merged_net, merged_part}
+use Rattle.dk_si.specs.Nets.{committed_ids, committed_updates, merged_updates, merged_deletes}
 use Rattle.dk_si.specs.Machine.{changed_ids}
 
 any_if : {T : Type 0} → (test : T → Bool) → (kept : Bool) → (x : T) → (xs all : List T)
@@ -18,7 +20,8 @@ any_if test true x xs all rest any = ⊎_elim (or_left _ _) (λ e. or_right _ _ 
 any_if test false x xs all rest any = or_right _ _ (rest any)
 
 -- an item that is kept was there
-any_kept : {T : Type 0} → (keep test : T → Bool) → (xs : List T) → list_any test (filter keep xs) ≡ true → list_any test xs ≡ true
+any_kept : {T : Type 0} → (keep test : T → Bool) → (xs : List T) → list_any test (filter keep xs) ≡ true
+    → list_any test xs ≡ true
 any_kept keep test [] any = any
 any_kept keep test (x ∷ xs) any = any_if test (keep x) x (filter keep xs) xs (any_kept keep test xs) any
 
@@ -32,13 +35,16 @@ any_choice test false true item first items others more any = ⊎_elim inl (λ e
 any_choice test false false item first items others more any =
     ⊎_elim (λ e. inr (or_left _ _ e)) (λ e. ⊎_elim inl (λ e. inr (or_right _ _ e)) (more e)) (or_cases _ _ any)
 
-any_put : {T : Type 0} → (test : T → Bool) → (key : T → ℕ) → (item : T) → (items : List T) → list_any test (put_by key item items) ≡ true
+any_put : {T : Type 0} → (test : T → Bool) → (key : T → ℕ) → (item : T) → (items : List T)
+    → list_any test (put_by key item items) ≡ true
     → (test item ≡ true) ⊎ (list_any test items ≡ true)
 any_put test key item [] any = or_cases _ _ any
 any_put test key item (first ∷ items) any =
-    any_choice test (nat_lt (key item) (key first)) (key item == key first) item first items (put_by key item items) (any_put test key item items) any
+    any_choice test (nat_lt (key item) (key first)) (key item == key first) item first items (put_by key item items)
+    (any_put test key item items) any
 
-any_put_all : {T : Type 0} → (test : T → Bool) → (key : T → ℕ) → (more items : List T) → list_any test (put_all key more items) ≡ true
+pub any_put_all : {T : Type 0} → (test : T → Bool) → (key : T → ℕ) → (more items : List T)
+    → list_any test (put_all key more items) ≡ true
     → (list_any test more ≡ true) ⊎ (list_any test items ≡ true)
 any_put_all test key [] items any = inr any
 any_put_all test key (item ∷ more) items any =
@@ -53,7 +59,7 @@ updated_if true row update updates ids rest any = ⊎_elim (or_left _ _) (λ e. 
 updated_if false row update updates ids rest any = rest any
 
 -- an updated row is one of the updates' ids
-updated : (count row : ℕ) → (updates : List (ℕ × List Value))
+pub updated : (count row : ℕ) → (updates : List (ℕ × List Value))
     → list_any (λ update. update.0 == row) (committed_updates count updates) ≡ true
     → has_id (committed_ids count (map (λ update. update.0) updates)) row ≡ true
 updated count row [] any = any
@@ -62,7 +68,8 @@ updated count row (update ∷ updates) any =
     (committed_ids count (map (λ update. update.0) updates)) (updated count row updates) any
 
 -- a row among some ids or others is one among both
-among : (count row : ℕ) → (ids others : List ℕ) → (has_id (committed_ids count ids) row || has_id (committed_ids count others) row) ≡ true
+pub among : (count row : ℕ) → (ids others : List ℕ)
+    → (has_id (committed_ids count ids) row || has_id (committed_ids count others) row) ≡ true
     → has_id (committed_ids count (ids ++ others)) row ≡ true
 among count row ids others any =
     ap (λ list. has_id list row) (filter-append (λ id. nat_lt id count) ids others)
@@ -92,25 +99,30 @@ touched_delete count row part change any =
     (λ e. inl (or_right _ _ e))
     (any_put_all (λ other. other == row) (λ id. id) (committed_ids count change.deletes) part.deletes any)
 
-touched_part : (count row : ℕ) → (part change : TableNet) → part_has (merged_part count part change) row ≡ true
+pub touched_part : (count row : ℕ) → (part change : TableNet) → part_has (merged_part count part change) row ≡ true
     → (part_has part row ≡ true) ⊎ (has_id (committed_ids count (changed_ids change)) row ≡ true)
-touched_part count row part change has = ⊎_elim (touched_update count row part change) (touched_delete count row part change) (or_cases _ _ has)
+touched_part count row part change has =
+    ⊎_elim (touched_update count row part change) (touched_delete count row part change) (or_cases _ _ has)
 
-has_choice : (same : Bool) → (part : TableNet) → (parts : List TableNet) → (table row : ℕ) → (part.table == table) ≡ same
+has_choice : (same : Bool) → (part : TableNet) → (parts : List TableNet) → (table row : ℕ) → (part.table == table)
+    ≡ same
     → (part_has (part_of parts table) row ≡ true → net_has parts table row ≡ true)
     → part_has (if same then part else part_of parts table) row ≡ true → net_has (part ∷ parts) table row ≡ true
 has_choice true part parts table row is rest has = or_left _ _ (and_from _ _ is has)
 has_choice false part parts table row is rest has = or_right _ _ (rest has)
 
 -- a row of a net's part of a table is one of the net
-part_is_in : (net : List TableNet) → (table row : ℕ) → part_has (part_of net table) row ≡ true → net_has net table row ≡ true
+pub part_is_in : (net : List TableNet) → (table row : ℕ) → part_has (part_of net table) row ≡ true
+    → net_has net table row ≡ true
 part_is_in [] table row has = has
-part_is_in (part ∷ parts) table row has = has_choice (part.table == table) part parts table row refl (part_is_in parts table row) has
+part_is_in (part ∷ parts) table row has =
+    has_choice (part.table == table) part parts table row refl (part_is_in parts table row) has
 
 with_choice : (full : Bool) → (part : TableNet) → (net : List TableNet) → (table row : ℕ)
     → net_has (if full then put_by (λ part. part.table) part net else net) table row ≡ true
     → ((part.table == table && part_has part row) ≡ true) ⊎ (net_has net table row ≡ true)
-with_choice true part net table row has = any_put (λ part. part.table == table && part_has part row) (λ part. part.table) part net has
+with_choice true part net table row has =
+    any_put (λ part. part.table == table && part_has part row) (λ part. part.table) part net has
 with_choice false part net table row has = inr has
 
 -- whether a statement's change touches the row

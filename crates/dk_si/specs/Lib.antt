@@ -16,6 +16,5 @@ pub mod IsLegal
 pub mod Standing
 pub mod OneThread
 pub mod Answer
-pub mod AnswerLaws
 pub mod RowLaws
 pub mod Laws

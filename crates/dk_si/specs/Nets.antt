@@ -1,5 +1,5 @@
 -- How a statement's changes of the view join those that its transaction made before.
-use Rattle.std.specs.List.{list_any, filter}
+use Rattle.std.specs.List.{list_all, list_any, filter}
 use Rattle.std.specs.Prelude.{true, false, ℕ, List, [], ◌∷◌, ◌==◌, nat_lt, if◌then◌else◌, Option, Some, None, Bool, ◌-◌, not, map, ◌++◌, length, slice_get, ◌||◌, ◌&&◌, sum}
 use Rattle.dk_values.specs.declared.value.Value.{Value}
 use Rattle.dk_types.specs.Nets.{changes}
@@ -10,6 +10,11 @@ use Rattle.dk_si.specs.Database.{present, put_rows, clear_rows}
 abbrev pub is_empty : {T : Type 0} → List T → Bool
 is_empty [] = true
 is_empty (x ∷ xs) = false
+
+-- the keys of these ascend, each once
+abbrev pub rises : {T : Type 0} → (T → ℕ) → List T → Bool
+rises key [] = true
+rises key (x ∷ xs) = list_all (λ y. nat_lt (key x) (key y)) xs && rises key xs
 
 -- an item in an ascending list: it takes the place of one with its key
 abbrev pub put_by : {T : Type 0} → (T → ℕ) → T → List T → List T

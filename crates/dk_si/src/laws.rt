@@ -1,6 +1,9 @@
 //! Laws of the machine. None of these functions does anything: what is proved is its contract.
 ghost use Rattle.dk_si.specs.Standing.{StandingAndOne, StandsWell};
-ghost use Rattle.dk_si.specs.Laws.{CommitsStay, FrontsAreSteps, StateAndOne, StepsAndOne, StatesSinceAndOne, ExchangesAndOne, FrontsAreLegal, NetStays, NetGains, SeesItsSnapshot, SameRowsAreEqual, CountsItsRows, CommitsHaveStarts, SeesEarlierCommits, FirstCommitterWins};
+ghost use Rattle.dk_si.specs.Laws.{CommitsStay, FrontsAreSteps, StateAndOne, StepsAndOne, StatesSinceAndOne};
+ghost use Rattle.dk_si.specs.Laws.{ExchangesAndOne, FrontsAreLegal, NetStays, NetGains, SeesItsSnapshot};
+ghost use Rattle.dk_si.specs.Laws.{SameRowsAreEqual, CountsItsRows, CommitsHaveStarts, SeesEarlierCommits};
+ghost use Rattle.dk_si.specs.Laws.{FirstCommitterWins};
 
 /// The state after the first n commits does not depend on what comes after the n-th.
 #[tactic(auto, using(crate::proofs::GrowthLemmas::commits_stay))]

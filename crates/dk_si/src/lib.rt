@@ -5,12 +5,13 @@
 //! statement means (`Meaning`), the machine's state and what each entry makes of it (`Machine`), rows held against a
 //! transaction (`HeldRows`), what a call may be answered by what its session knows (`MayAnswer`), the step (`IsStep`),
 //! legal histories (`IsLegal`), stops and iterations carried from entry to entry (`Standing`), and histories of one thread
-//! (`OneThread`, `Answer`). Three look into a statement: `Meaning`, `LawfulCalls`, and `kind_of` of `Machine`; all others ask
-//! these.
+//! (`OneThread`, `Answer`). Three look into a statement: `Meaning`, `LawfulCalls`, and `kind_of` of `Machine`; all others
+//! ask these.
 //!
-//! What holds of each list of steps stands in `laws`: the commits that a transaction sees stay as they are, each front of a
-//! legal history is legal, and of two overlapping transactions that change one row never both commit. The program that
-//! decides whether a history is legal is `dk_legal`, above this crate. It stands on `dk_types`.
+//! What holds of each list of steps stands in `laws`: the commits that a transaction sees stay as they are, each front
+//! of a legal history is legal, and of two overlapping transactions that change one row never both commit. Further laws
+//! are in `dk_laws` and, of one thread, in `dk_alone`; the program that decides whether a history is legal is `dk_legal`:
+//! all three above this crate. It stands on `dk_types`.
 #![tactic(auto)]
 
 pub mod database;
@@ -23,12 +24,9 @@ pub mod machine;
 pub mod meaning;
 pub mod names;
 mod needs;
-pub mod one_thread;
 pub mod replies;
 pub mod row_laws;
 pub mod standing;
-#[cfg(test)]
-mod tests;
 
 pub use database::{Database, Table};
 pub use history::{Asked, Entries, Entry};

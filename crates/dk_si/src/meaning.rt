@@ -1,11 +1,12 @@
-//! What a statement may mean, and the tests of a creation and an insertion, which what carries statements out shares.
+//! What a statement may mean, and the tests of a creation, an insertion and a query, which what carries statements out
+//! shares.
 ghost use Rattle.std.specs.Prelude.{◌≡◌, ◌==◌, ◌&&◌};
 ghost use Rattle.std.specs.List.{list_all};
-ghost use Rattle.dk_si.specs.Meaning.{creation_refusal, fits, is_fitting, all_big, is_big, is_big_type};
+ghost use Rattle.dk_si.specs.Meaning.{creation_refusal, fits, is_fitting, all_big, is_big, is_big_type, is_whole};
 
 use crate::limits::MAX_TABLES;
 use crate::names::{Named, place_of};
-use dk_types::{Bytes, ColType, Column, List, Refusal, Row, Schema, TableNet, Value};
+use dk_types::{Bytes, ColType, Column, Items, List, Query, Refusal, Row, Schema, TableNet, Value};
 
 /// What a statement means: rows to reply, a change of one table, a new table, or why it may not be.
 #[derive(Debug, Drop)]
@@ -69,4 +70,15 @@ pub fn creation_refusal<T: Named>(others: &[T], name: &[u8], columns: &[Column])
         return Some(Refusal::Unsupported);
     }
     None
+}
+
+/// Whether a query is of all columns and all rows.
+pub fn is_whole(query: &Query) -> bool
+    ensures { result ≡ is_whole query.now }
+{
+    matches!(query.items, Items::All { .. })
+        && query.filter.is_none()
+        && query.groups.is_empty()
+        && query.keys.is_empty()
+        && query.limit.is_none()
 }

@@ -1,4 +1,4 @@
-//! Laws of the rows that a statement changes. None of these functions does anything: what is proved is its contract.
+//! A law of the rows that a statement changes. The function does nothing: what is proved is its contract.
 ghost use Rattle.dk_si.specs.RowLaws.{ChangedRowsAreThere};
 
 /// A statement updates and deletes rows that are there.

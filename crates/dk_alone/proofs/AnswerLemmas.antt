@@ -1,7 +1,7 @@
 -- In a history of one thread a reply is a function of the calls.
 use Rattle.std.proofs.Common.{◌≡◌, inl, inr, ℕ, ◌+◌, ◌-◌, ◌≤◌, Bool, true, false, List, [], ◌∷◌, length, Option, Some, None, ap, ◌∙◌, sym, refl, subst, arith}
 use Rattle.std.specs.Prelude.{◌&&◌, ◌||◌, is_none, not, option_map, ◌==◌, if◌then◌else◌}
-use Rattle.std.proofs.lemmas.Bool.{false≢true, and_parts, or_parts, or_cases, not-true, eqb-true, ne_eqb, leb-true}
+use Rattle.std.proofs.lemmas.Bool.{false≢true, and_parts, or_cases, not-true, eqb-true, ne_eqb, leb-true}
 use Rattle.dk_types.specs.declared.net.Commit.{Commit}
 use Rattle.dk_types.specs.declared.net.TableNet.{TableNet}
 use Rattle.dk_syntax.specs.declared.statement.Statement.{Statement}
@@ -31,22 +31,25 @@ use Rattle.dk_si.specs.Database.{after}
 use Rattle.dk_si.specs.Nets.{has_id, is_empty}
 use Rattle.dk_si.specs.Weight.{cap}
 use Rattle.dk_si.specs.Meaning.{meaning, is_text_refusal, is_same_refusal}
-use Rattle.dk_si.specs.Machine.{first_state, kind_of, asks_for, meaning_in, write_set, write_set_in_flight, net_after, begins_one}
+use Rattle.dk_si.specs.Machine.{kind_of, asks_for, meaning_in, write_set, write_set_in_flight, net_after, begins_one}
 use Rattle.dk_si.specs.HeldRows.{is_blocked, writes_row}
 use Rattle.dk_si.specs.ReplyTests.{is_refused, is_no_memory, is_no_transaction, is_in_transaction, is_aborted, is_ended, is_begun, is_next, is_fault, is_stopped, is_spent_refusal, has_no_iteration}
 use Rattle.dk_si.specs.Spent.{committed_rows}
 use Rattle.dk_si.specs.MayAnswer.{checkpoint_answers, outside_answers, aborted_answers, commit_answers, is_meant_refusal, are_meant_rows, select_answers, is_creation, is_refused_from, create_answers, is_that_refusal, is_change_of, is_any_change, is_receipt_for, is_change_refusal, is_change_reply, open_answers, statement_answers, may_answer}
-use Rattle.dk_si.specs.IsStep.{none_blocked, start_of, is_founded, may_reply, if_there}
+use Rattle.dk_si.specs.IsStep.{none_blocked, start_of, is_founded}
 use Rattle.dk_si.specs.Size.{size_refusal}
 use Rattle.dk_si.specs.OneThread.{is_least_held, held_alone, is_conflict_alone, is_spent_alone, are_spent_numbers, may_reply_alone, none_in_flight}
-use Rattle.dk_si.specs.Answer.{next_receipt, holder_of, least_where, least_blocked, answer_spent, answer_checkpoint, answer_outside, answer_aborted, answer_commit, answer_create, answer_select, answer_rows, answer_net, answer_change, answer_open, answer_statement, answer, timeless_receipt, timeless}
-use Rattle.dk_si.specs.Laws.{state_after}
-use Rattle.dk_si.specs.AnswerLaws.{is_fault_or_stop, is_plain, follows, RepliesAreAnswers, RepliesAreOne}
+use Rattle.dk_si.specs.Answer.{next_receipt, holder_of, least_blocked, answer_spent, answer_checkpoint, answer_outside, answer_aborted, answer_commit, answer_create, answer_select, answer_rows, answer_net, answer_change, answer_open, answer_statement, answer, timeless_receipt, timeless}
+use Rattle.dk_alone.specs.AnswerLaws.{is_fault_or_stop, is_plain}
+use Rattle.dk_si.specs.Exchanges.{is_checkpoint}
 use Rattle.dk_si.proofs.MeaningLemmas.{same_rows_are_equal}
 use Rattle.dk_si.proofs.HolderLemmas.{sees_all, HasOneHolder, not_both, least_is, least_none, holder_is}
-use Rattle.dk_si.proofs.FirstCommitterLemmas.{fair}
-use Rattle.dk_si.proofs.OneHolderLemmas.{has_one_holder}
-use Rattle.dk_si.proofs.FreshLemmas.{all_are_seen}
+
+-- a checkpoint is answered the iteration behind this one, or that this one is the last
+abbrev pub follows : ℕ → Reply → Bool
+follows iteration (told.Checkpointed n) = n == iteration + 1
+follows iteration (told.Refused refusal) = not (has_no_iteration refusal) || iteration == MAX_ITERATION
+follows iteration other = true
 
 -- a reply that no fault made
 abbrev Plain : Reply → Type 0
@@ -175,11 +178,11 @@ checkpoint commits iteration reply e plain next = absurd (false≢true e)
 
 outside : (opened : List Table) (iteration number : ℕ) (machine : Machine) (asked : Option Asked) (kind : Kind) (reply : Reply)
     → asks_for begins_one asked ≡ begins_one kind → outside_answers machine.commits kind reply ≡ true
-    → may_reply_alone opened machine number state.Outside asked reply ≡ true → Plain reply → follows iteration reply ≡ true
+    → may_reply_alone opened machine number state.Outside asked reply ≡ true → Plain reply → (is_checkpoint kind ≡ true → follows iteration reply ≡ true)
     → timeless reply ≡ answer_outside opened iteration machine kind
 outside opened iteration number machine asked form.Commit reply begins e alone plain next = refused_as is_no_transaction why.NoTransaction no_transaction reply e
 outside opened iteration number machine asked form.Rollback reply begins e alone plain next = refused_as is_no_transaction why.NoTransaction no_transaction reply e
-outside opened iteration number machine asked form.Checkpoint reply begins e alone plain next = checkpoint machine.commits iteration reply e plain next
+outside opened iteration number machine asked form.Checkpoint reply begins e alone plain next = checkpoint machine.commits iteration reply e plain (next refl)
 outside opened iteration number machine asked form.Begin reply begins e alone plain next = spent_told opened machine number asked reply begins e alone
 outside opened iteration number machine asked form.Create reply begins e alone plain next = spent_told opened machine number asked reply begins e alone
 outside opened iteration number machine asked form.Select reply begins e alone plain next = spent_told opened machine number asked reply begins e alone
@@ -263,7 +266,7 @@ change_receipt commits true (Some receipt) e = ap Some (receipts commits receipt
 change_receipt commits false (Some receipt) e = absurd (false≢true e)
 
 -- the answer by the refusal for its size
-by_size : (machine : Machine) (number : ℕ) (active : OpenTransaction) (count : ℕ) (net : List TableNet) (writes : Option WriteSet) (refused : Option Refusal)
+pub by_size : (machine : Machine) (number : ℕ) (active : OpenTransaction) (count : ℕ) (net : List TableNet) (writes : Option WriteSet) (refused : Option Refusal)
     → size_refusal net ≡ refused
     → answer_net machine number active count net writes ≡ elim refused as (λ x. Reply) [
       | Some refusal ↦ told.Refused refusal
@@ -432,7 +435,8 @@ in_open opened number machine active statement form.Change reply e free plain ma
 
 in_state : (opened : List Table) (iteration : ℕ) (machine : Machine) (number : ℕ) (transaction : Transaction) (statement : Statement) (reply : Reply)
     → statement_answers opened machine.commits transaction statement reply ≡ true
-    → Unblocked machine number (start_of transaction) (write_set_in_flight opened machine.commits transaction (Some (Good statement))) reply → Plain reply → follows iteration reply ≡ true
+    → Unblocked machine number (start_of transaction) (write_set_in_flight opened machine.commits transaction (Some (Good statement))) reply → Plain reply
+    → (is_checkpoint (kind_of statement) ≡ true → follows iteration reply ≡ true)
     → may_reply_alone opened machine number transaction (Some (Good statement)) reply ≡ true
     → sees_all machine.commits transaction ≡ true → none_in_flight machine number ≡ true → HasOneHolder machine number
     → timeless reply ≡ answer_statement opened iteration machine number transaction statement
@@ -444,7 +448,8 @@ in_state opened iteration machine number (state.Open active) statement reply e f
 
 to_call : (opened : List Table) (iteration : ℕ) (machine : Machine) (number : ℕ) (transaction : Transaction) (asked : Asked) (reply : Reply)
     → may_answer opened machine.commits transaction asked reply ≡ true
-    → Unblocked machine number (start_of transaction) (write_set_in_flight opened machine.commits transaction (Some asked)) reply → is_plain asked reply ≡ true → follows iteration reply ≡ true
+    → Unblocked machine number (start_of transaction) (write_set_in_flight opened machine.commits transaction (Some asked)) reply → is_plain asked reply ≡ true
+    → (asks_for is_checkpoint (Some asked) ≡ true → follows iteration reply ≡ true)
     → may_reply_alone opened machine number transaction (Some asked) reply ≡ true
     → sees_all machine.commits transaction ≡ true → none_in_flight machine number ≡ true → HasOneHolder machine number
     → timeless reply ≡ answer opened iteration machine number transaction asked
@@ -459,22 +464,20 @@ unblocked : (opened : List Table) (number : ℕ) (before : List Entry) (machine 
 unblocked opened number before machine session (told.Changed count receipt) founded = founded
 unblocked opened number before machine session other founded = tt
 
-pub replies_are_answers : RepliesAreAnswers
-replies_are_answers opened iteration entries number session asked reply waits ends =
-    let machine = state_after opened first_state entries in
-    let may = subst (λ found. if_there (may_reply opened number entries machine reply) found ≡ true) waits.is ends.step in
-    let told = subst (λ call. elim call as (λ x. Bool) [ None ↦ false | Some asked ↦ may_answer opened machine.commits session.transaction asked reply && is_founded opened number entries machine session reply ] ≡ true) waits.call may in
-    let both = and_parts (may_answer opened machine.commits session.transaction asked reply) (is_founded opened number entries machine session reply) told in
-    let free = unblocked opened number entries machine session reply both.1 in
-    let h = and_parts (none_in_flight machine number) _ ends.alone in
-    let here = subst (λ found. elim found as (λ x. Bool) [ None ↦ false | Some session ↦ may_reply_alone opened machine number session.transaction session.asked reply ] ≡ true) waits.is h.1 in
-    let so = subst (λ call. may_reply_alone opened machine number session.transaction call reply ≡ true) waits.call here in
-    to_call opened iteration machine number session.transaction asked reply both.0
-    (subst (λ call. Unblocked machine number (start_of session.transaction) (write_set_in_flight opened machine.commits session.transaction call) reply) waits.call free) ends.plain ends.next so
-    (all_are_seen opened entries number session waits.steps waits.alone waits.is) h.0
-    (has_one_holder machine _ number (fair opened entries waits.steps) h.0)
+-- a reply to a call in flight of this session, in a state of one thread
+pub record Tells (opened : List Table) (iteration : ℕ) (before : List Entry) (machine : Machine) (number : ℕ) (session : Session) (asked : Asked) (reply : Reply) : Type 0 where
+  pub may : may_answer opened machine.commits session.transaction asked reply ≡ true
+  pub founded : is_founded opened number before machine session reply ≡ true
+  pub alone : may_reply_alone opened machine number session.transaction (Some asked) reply ≡ true
+  pub none : none_in_flight machine number ≡ true
+  pub next : asks_for is_checkpoint (Some asked) ≡ true → follows iteration reply ≡ true
 
-pub replies_are_one : RepliesAreOne
-replies_are_one opened iteration entries number session asked reply other waits ends also =
-    replies_are_answers opened iteration entries number session asked reply waits ends
-    ∙ sym (replies_are_answers opened iteration entries number session asked other waits also)
+pub told_is_answer : (opened : List Table) (iteration : ℕ) (before : List Entry) (machine : Machine) (number : ℕ) (session : Session) (asked : Asked) (reply : Reply)
+    → Tells opened iteration before machine number session asked reply → session.asked ≡ Some asked → is_plain asked reply ≡ true
+    → sees_all machine.commits session.transaction ≡ true → HasOneHolder machine number
+    → timeless reply ≡ answer opened iteration machine number session.transaction asked
+told_is_answer opened iteration before machine number session asked reply tells call plain sees one =
+    let free = unblocked opened number before machine session reply tells.founded in
+    to_call opened iteration machine number session.transaction asked reply tells.may
+    (subst (λ call. Unblocked machine number (start_of session.transaction) (write_set_in_flight opened machine.commits session.transaction call) reply) call free)
+    plain tells.next tells.alone sees tells.none one

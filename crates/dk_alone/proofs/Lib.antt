@@ -1,0 +1,11 @@
+pub mod AnswerFitLemmas
+pub mod AnswerLemmas
+pub mod AnswerWalkLemmas
+pub mod FlightLemmas
+pub mod IterationLemmas
+pub mod LeastRowLemmas
+pub mod MeaningKindLemmas
+pub mod OneHolderLemmas
+pub mod OnlyAnswerLemmas
+pub mod ReplyAnswerLemmas
+pub mod WalkLemmas

@@ -1,0 +1,2 @@
+pub mod AnswerHistory
+pub mod AnswerLaws

@@ -1,0 +1,9 @@
+pub mod ConflictLemmas
+pub mod FittingCommitLemmas
+pub mod FittingMeaningLemmas
+pub mod FittingNetLemmas
+pub mod FittingStateLemmas
+pub mod KindLemmas
+pub mod ReceiptLemmas
+pub mod RowListLemmas
+pub mod SessionLemmas

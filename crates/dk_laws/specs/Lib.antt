@@ -1,0 +1,5 @@
+pub mod KindLaws
+pub mod ReceiptLaws
+pub mod SessionLaws
+pub mod ConflictLaws
+pub mod FittingNets
