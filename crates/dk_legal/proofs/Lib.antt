@@ -1,5 +1,2 @@
-pub mod PutLemmas
 pub mod RefusedSinceLemmas
-pub mod TupleLemmas
-pub mod CapLemmas
-pub mod SetLemmas
+pub mod OthersLemmas

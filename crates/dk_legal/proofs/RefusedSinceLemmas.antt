@@ -7,7 +7,8 @@ use Rattle.dk_types.specs.declared.reply.Refusal.{Refusal}
 use Rattle.dk_si.specs.declared.database.Table.{Table}
 use Rattle.dk_si.specs.MayAnswer.{is_refused_from}
 
-pub refused_on : (opened : List Table) (commits : List Commit) (statement : Statement) (refusal : Refusal) (start step more : ℕ) (all : Bool)
+pub refused_on : (opened : List Table) (commits : List Commit) (statement : Statement) (refusal : Refusal) (start
+    step more : ℕ) (all : Bool)
     → step < more → is_refused_from opened commits statement refusal (start + step) 0 ≡ false
     → is_refused_from opened commits statement refusal (start + step) (more - step) ≡ all
     → is_refused_from opened commits statement refusal (start + (step + 1)) (more - (step + 1)) ≡ all

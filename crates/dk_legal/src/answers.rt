@@ -1,37 +1,81 @@
 //! What a call may be answered by what its own session knows.
-ghost use Rattle.std.specs.Prelude.{◌≡◌, ℕ, ◌+◌, ◌-◌, length, Some, IfOk};
+ghost use Rattle.std.specs.Prelude.{◌≡◌, ◌-◌, length, IfOk};
+ghost use Rattle.dk_si.specs.Database.{after};
 ghost use Rattle.dk_si.specs.Machine.{kind_of};
 ghost use Rattle.dk_si.specs.Meaning.{meaning};
-ghost use Rattle.dk_si.specs.ReplyTests.{is_refused, is_aborted, is_in_transaction};
-ghost use Rattle.dk_si.specs.MayAnswer.{checkpoint_answers, outside_answers, aborted_answers, commit_answers, is_meant_refusal, are_meant_rows, select_answers, is_creation, is_refused_from, create_answers, is_change_of, is_any_change, is_that_refusal, is_receipt_for, is_change_refusal, is_change_reply, change_answers, open_answers, statement_answers, may_answer};
+ghost use Rattle.dk_si.specs.Size.{size_refusal};
+ghost use Rattle.dk_si.specs.ReplyTests.{is_next, is_ended, is_begun};
+ghost use Rattle.dk_si.specs.MayAnswer.{checkpoint_answers, outside_answers, aborted_answers, commit_answers};
+ghost use Rattle.dk_si.specs.MayAnswer.{is_meant_refusal, are_meant_rows, select_answers, is_creation};
+ghost use Rattle.dk_si.specs.MayAnswer.{is_refused_from, create_answers, is_change_of, is_any_change};
+ghost use Rattle.dk_si.specs.MayAnswer.{is_that_refusal, is_receipt_for, is_change_refusal, is_change_reply};
+ghost use Rattle.dk_si.specs.MayAnswer.{change_answers, open_answers, statement_answers, may_answer};
 
-use crate::database::after;
 use crate::held::writes_row;
-use crate::machine::{meaning_of, net_after, write_set};
-use crate::meaning::{is_same_refusal, is_text_refusal, meaning};
 use crate::refusals::{
-    is_aborted, is_begun, is_committed, is_ended, is_fault, is_in_transaction, is_next,
-    is_no_memory, is_no_transaction, is_spent_refusal, is_stopped,
+    has_no_memory, has_no_transaction, is_aborted, is_fault, is_in_transaction, is_outside_grammar,
+    is_same_refusal, is_spent, is_stopped,
 };
 use crate::same::same_rows;
-use crate::scene::CommitLog;
-use crate::size::size_refusal;
+use dk_plain::database::after;
+use dk_plain::size::size_refusal;
+use dk_plain::{CommitLog, Inside};
 use dk_si::history::Asked;
 use dk_si::kind::Kind;
 use dk_si::limits::MAX_ITERATION;
-use dk_si::machine::{OpenTransaction, Transaction, WriteSet};
+use dk_si::machine::{Transaction, WriteSet};
 use dk_si::meaning::Meaning;
 use dk_si::replies::has_no_iteration;
+use dk_states::call::{net_after, statement_meaning, write_set};
+use dk_states::meaning::meaning;
 use dk_types::{Commit, OutOfMemory, Receipt, Refusal, Reply, Rows, Statement, TableNet};
 use std::alloc::Global;
 
-/// What a change leads to: its meaning, the net behind it, the rows that it updates or deletes, and whether it commits.
+/// What a change leads to behind these commits: its meaning, the net behind it, the rows that it updates or deletes,
+/// and whether it commits.
 #[derive(Clone, Copy)]
 struct Outcome<'a> {
+    commits: &'a [Commit],
     meant: &'a Meaning,
     net: &'a [TableNet],
     writes: &'a Option<WriteSet>,
     commits_now: bool,
+}
+
+/// A statement, and the reply that it may have.
+#[derive(Clone, Copy)]
+struct Answer<'a> {
+    statement: &'a Statement,
+    reply: &'a Reply,
+}
+
+/// A statement, and why it may be refused.
+#[derive(Clone, Copy)]
+struct Refused<'a> {
+    statement: &'a Statement,
+    refusal: &'a Refusal,
+}
+
+/// Whether the receipt has the number of the next commit.
+fn is_next(commits: &[Commit], receipt: &Receipt) -> bool
+    ensures { result ≡ is_next commits.now receipt.now }
+{
+    receipt.number == commits.len() as u64 + 1
+}
+
+fn is_ended(reply: &Reply) -> bool
+    ensures { result ≡ is_ended reply.now }
+{
+    matches!(reply, Reply::Ended)
+}
+
+fn is_begun(start: u64, reply: &Reply) -> bool
+    ensures { result ≡ is_begun start reply.now }
+{
+    match reply {
+        Reply::Begun { start: at } => *at == start,
+        _ => false,
+    }
 }
 
 fn checkpoint_answers(commits: &[Commit], reply: &Reply) -> bool
@@ -52,32 +96,8 @@ fn outside_answers(commits: &[Commit], kind: Kind, reply: &Reply) -> bool
 {
     match kind {
         Kind::Checkpoint => checkpoint_answers(commits, reply),
-        Kind::Commit | Kind::Rollback => match reply {
-            Reply::Refused(refusal) => is_no_transaction(refusal),
-            _ => false,
-        },
-        _ => match reply {
-            Reply::Refused(refusal) => is_spent_refusal(refusal),
-            _ => false,
-        },
-    }
-}
-
-fn refuses_aborted(reply: &Reply) -> bool
-    ensures { result ≡ is_refused is_aborted reply.now }
-{
-    match reply {
-        Reply::Refused(refusal) => is_aborted(refusal),
-        _ => false,
-    }
-}
-
-fn refuses_in_transaction(reply: &Reply) -> bool
-    ensures { result ≡ is_refused is_in_transaction reply.now }
-{
-    match reply {
-        Reply::Refused(refusal) => is_in_transaction(refusal),
-        _ => false,
+        Kind::Commit | Kind::Rollback => has_no_transaction(reply),
+        _ => is_spent(reply),
     }
 }
 
@@ -87,7 +107,7 @@ fn aborted_answers(kind: Kind, reply: &Reply) -> bool
 {
     match kind {
         Kind::Rollback => is_ended(reply),
-        _ => refuses_aborted(reply),
+        _ => is_aborted(reply),
     }
 }
 
@@ -98,8 +118,9 @@ fn commit_answers(commits: &[Commit], net: &[TableNet], reply: &Reply) -> bool
     match net {
         [] => is_ended(reply),
         [..] => match reply {
+            Reply::Committed { receipt } => is_next(commits, receipt),
             Reply::Refused(refusal) => is_stopped(commits, refusal) || is_fault(refusal),
-            _ => is_committed(commits, reply),
+            _ => false,
         },
     }
 }
@@ -144,56 +165,74 @@ fn is_creation(meant: &Meaning) -> bool
 fn is_refused_at(
     alloc: Global,
     log: &CommitLog<'_>,
-    statement: &Statement,
-    refusal: &Refusal,
     n: u64,
+    refused: &Refused<'_>,
 ) -> Result<bool, OutOfMemory>
-    ensures { IfOk result (λ so. so ≡ is_refused_from log.now.opened.now log.now.commits.now statement.now refusal.now n 0) }
+    ensures { IfOk result (λ so. so ≡ is_refused_from log.now.opened.now log.now.commits.now
+        refused.now.statement.now refused.now.refusal.now n 0) }
 {
     let tables = after(alloc, log, n)?;
-    let meant = meaning(alloc, tables.as_slice(), statement)?;
-    Ok(is_meant_refusal(&meant, refusal))
+    let meant = meaning(alloc, tables.as_slice(), refused.statement)?;
+    Ok(is_meant_refusal(&meant, refused.refusal))
 }
 
 /// Whether the statement is refused so in a state from the start to the last commit.
 #[tactic(auto, using(crate::proofs::RefusedSinceLemmas::refused_on))]
 fn is_refused_since(
     alloc: Global,
-    log: &CommitLog<'_>,
-    statement: &Statement,
-    refusal: &Refusal,
-    start: u64,
+    inside: &Inside<'_>,
+    refused: &Refused<'_>,
 ) -> Result<bool, OutOfMemory>
-    ensures { IfOk result (λ so. so ≡ is_refused_from log.now.opened.now log.now.commits.now statement.now refusal.now start (length log.now.commits.now - start)) }
+    ensures { IfOk result (λ so. so ≡ is_refused_from inside.now.log.opened.now
+        inside.now.log.commits.now refused.now.statement.now refused.now.refusal.now
+        inside.now.active.now.start
+        (length inside.now.log.commits.now - inside.now.active.now.start)) }
 {
+    let log = inside.log;
+    let start = inside.active.start;
     let more = (log.commits.len() as u64).saturating_sub(start);
     for step in 0..more {
-        if is_refused_at(alloc, log, statement, refusal, start + step)? {
+        if is_refused_at(alloc, &log, start + step, refused)? {
             return Ok(true);
         }
     }
-    is_refused_at(alloc, log, statement, refusal, start + more)
+    is_refused_at(alloc, &log, start + more, refused)
+}
+
+/// Whether the statement makes a table in the state of the last commit.
+fn creates_now(
+    alloc: Global,
+    log: &CommitLog<'_>,
+    statement: &Statement,
+) -> Result<bool, OutOfMemory>
+    ensures { IfOk result (λ so. so ≡ is_creation (meaning
+        (after log.now.opened.now log.now.commits.now (length log.now.commits.now)) statement.now)) }
+{
+    let tables = after(alloc, log, log.commits.len() as u64)?;
+    let meant = meaning(alloc, tables.as_slice(), statement)?;
+    Ok(is_creation(&meant))
 }
 
 /// The reply to CREATE TABLE.
 fn create_answers(
     alloc: Global,
-    log: &CommitLog<'_>,
-    active: &OpenTransaction,
-    statement: &Statement,
-    reply: &Reply,
+    inside: &Inside<'_>,
+    answer: &Answer<'_>,
 ) -> Result<bool, OutOfMemory>
-    ensures { IfOk result (λ so. so ≡ create_answers log.now.opened.now log.now.commits.now active.now statement.now reply.now) }
+    ensures { IfOk result (λ so. so ≡ create_answers inside.now.log.opened.now
+        inside.now.log.commits.now inside.now.active.now answer.now.statement.now
+        answer.now.reply.now) }
 {
-    match reply {
+    let commits = inside.log.commits;
+    let statement = answer.statement;
+    match answer.reply {
         Reply::Created { receipt } => {
-            let tables = after(alloc, log, log.commits.len() as u64)?;
-            let meant = meaning(alloc, tables.as_slice(), statement)?;
-            Ok(is_creation(&meant) && is_next(log.commits, receipt))
+            let creates = creates_now(alloc, &inside.log, statement)?;
+            Ok(creates && is_next(commits, receipt))
         }
         Reply::Refused(refusal) => {
-            let refused = is_refused_since(alloc, log, statement, refusal, active.start)?;
-            Ok(refused || (is_stopped(log.commits, refusal) || is_fault(refusal)))
+            let refused = is_refused_since(alloc, inside, &Refused { statement, refusal })?;
+            Ok(refused || (is_stopped(commits, refusal) || is_fault(refusal)))
         }
         _ => Ok(false),
     }
@@ -233,95 +272,107 @@ fn is_receipt_for(commits: &[Commit], commits_now: bool, receipt: &Option<Receip
     }
 }
 
-/// Why a change may be refused.
-fn is_change_refusal(
-    alloc: Global,
-    commits: &[Commit],
-    outcome: &Outcome<'_>,
-    refusal: &Refusal,
-) -> Result<bool, OutOfMemory>
-    ensures { IfOk result (λ so. so ≡ is_change_refusal commits.now outcome.now.meant.now outcome.now.net.now
-        outcome.now.writes.now outcome.now.commits_now refusal.now) }
+/// Why a change may be refused, which leads to a net of that size.
+fn is_change_refusal(outcome: &Outcome<'_>, size: Option<Refusal>, refusal: &Refusal) -> bool
+    requires { size ≡ size_refusal outcome.now.net.now }
+    ensures { result ≡ is_change_refusal outcome.now.commits.now outcome.now.meant.now
+        outcome.now.net.now outcome.now.writes.now outcome.now.commits_now refusal.now }
 {
-    let size = size_refusal(alloc, outcome.net)?;
-    Ok(match refusal {
+    match refusal {
         Refusal::Conflict { table, row, .. } => writes_row(outcome.writes, *table, *row),
-        Refusal::Stopped { first } => { outcome.commits_now && *first == commits.len() as u64 + 1 }
+        Refusal::Stopped { first } => {
+            outcome.commits_now && *first == outcome.commits.len() as u64 + 1
+        }
         _ => {
             is_meant_refusal(outcome.meant, refusal)
                 || (is_fault(refusal)
                     || (is_any_change(outcome.meant) && is_that_refusal(size, refusal)))
         }
-    })
+    }
 }
 
-fn is_change_reply(
-    alloc: Global,
-    commits: &[Commit],
-    outcome: &Outcome<'_>,
-    reply: &Reply,
-) -> Result<bool, OutOfMemory>
-    ensures { IfOk result (λ so. so ≡ is_change_reply commits.now outcome.now.meant.now outcome.now.net.now
-        outcome.now.writes.now outcome.now.commits_now reply.now) }
+/// The reply to a change.
+fn is_change_reply(alloc: Global, outcome: &Outcome<'_>, reply: &Reply) -> Result<bool, OutOfMemory>
+    ensures { IfOk result (λ so. so ≡ is_change_reply outcome.now.commits.now outcome.now.meant.now
+        outcome.now.net.now outcome.now.writes.now outcome.now.commits_now reply.now) }
 {
-    match reply {
+    let size = size_refusal(alloc, outcome.net)?;
+    Ok(match reply {
         Reply::Changed { count, receipt } => {
-            let size = size_refusal(alloc, outcome.net)?;
-            Ok(
-                (is_change_of(*count, outcome.meant) && size.is_none())
-                    && is_receipt_for(commits, outcome.commits_now, receipt),
-            )
+            (is_change_of(*count, outcome.meant) && size.is_none())
+                && is_receipt_for(outcome.commits, outcome.commits_now, receipt)
         }
-        Reply::Refused(refusal) => is_change_refusal(alloc, commits, outcome, refusal),
-        _ => Ok(false),
-    }
+        Reply::Refused(refusal) => is_change_refusal(outcome, size, refusal),
+        _ => false,
+    })
 }
 
 /// The reply to INSERT, UPDATE and DELETE, whose meaning in the view is this.
 fn change_answers(
     alloc: Global,
-    log: &CommitLog<'_>,
-    active: &OpenTransaction,
+    inside: &Inside<'_>,
     meant: &Meaning,
     reply: &Reply,
 ) -> Result<bool, OutOfMemory>
-    ensures { IfOk result (λ so. so ≡ change_answers log.now.opened.now log.now.commits.now active.now meant.now reply.now) }
+    ensures { IfOk result (λ so. so ≡ change_answers inside.now.log.opened.now
+        inside.now.log.commits.now inside.now.active.now meant.now reply.now) }
 {
-    let net = net_after(alloc, log, active, meant)?;
-    let writes = write_set(alloc, log, active, meant)?;
+    let net = net_after(alloc, inside, meant)?;
+    let writes = write_set(alloc, inside, meant)?;
     let outcome = Outcome {
+        commits: inside.log.commits,
         meant,
         net: net.as_slice(),
         writes: &writes,
-        commits_now: active.fresh && !net.is_empty(),
+        commits_now: inside.active.fresh && !net.is_empty(),
     };
-    is_change_reply(alloc, log.commits, &outcome, reply)
+    is_change_reply(alloc, &outcome, reply)
 }
 
 /// The reply to a statement in a transaction that is open.
 fn open_answers(
     alloc: Global,
-    log: &CommitLog<'_>,
-    active: &OpenTransaction,
-    statement: &Statement,
-    reply: &Reply,
+    inside: &Inside<'_>,
+    answer: &Answer<'_>,
 ) -> Result<bool, OutOfMemory>
-    ensures { IfOk result (λ so. so ≡ open_answers log.now.opened.now log.now.commits.now active.now statement.now (kind_of statement.now) reply.now) }
+    ensures { IfOk result (λ so. so ≡ open_answers inside.now.log.opened.now
+        inside.now.log.commits.now inside.now.active.now answer.now.statement.now (kind_of
+        answer.now.statement.now) answer.now.reply.now) }
 {
+    let Answer { statement, reply } = *answer;
+    let active = inside.active;
     match Kind::of(statement) {
         Kind::Begin if active.fresh => Ok(is_begun(active.start, reply)),
-        Kind::Create if active.fresh => create_answers(alloc, log, active, statement, reply),
-        Kind::Begin | Kind::Checkpoint | Kind::Create => Ok(refuses_in_transaction(reply)),
-        Kind::Commit => Ok(commit_answers(log.commits, active.net.as_slice(), reply)),
+        Kind::Create if active.fresh => create_answers(alloc, inside, answer),
+        Kind::Begin | Kind::Checkpoint | Kind::Create => Ok(is_in_transaction(reply)),
+        Kind::Commit => Ok(commit_answers(inside.log.commits, active.net.as_slice(), reply)),
         Kind::Rollback => Ok(is_ended(reply)),
         Kind::Select => {
-            let meant = meaning_of(alloc, log, active, statement)?;
+            let meant = statement_meaning(alloc, inside, statement)?;
             select_answers(alloc, &meant, reply)
         }
         Kind::Change => {
-            let meant = meaning_of(alloc, log, active, statement)?;
-            change_answers(alloc, log, active, &meant, reply)
+            let meant = statement_meaning(alloc, inside, statement)?;
+            change_answers(alloc, inside, &meant, reply)
         }
+    }
+}
+
+/// The reply to a statement.
+fn statement_answers(
+    alloc: Global,
+    log: &CommitLog<'_>,
+    transaction: &Transaction,
+    answer: &Answer<'_>,
+) -> Result<bool, OutOfMemory>
+    ensures { IfOk result (λ so. so ≡ statement_answers log.now.opened.now log.now.commits.now
+        transaction.now answer.now.statement.now answer.now.reply.now) }
+{
+    let Answer { statement, reply } = *answer;
+    match transaction {
+        Transaction::Outside => Ok(outside_answers(log.commits, Kind::of(statement), reply)),
+        Transaction::Aborted => Ok(aborted_answers(Kind::of(statement), reply)),
+        Transaction::Open(active) => open_answers(alloc, &Inside { log: *log, active }, answer),
     }
 }
 
@@ -333,21 +384,14 @@ pub fn may_answer(
     asked: &Asked,
     reply: &Reply,
 ) -> Result<bool, OutOfMemory>
-    ensures { IfOk result (λ may. may ≡ may_answer log.now.opened.now log.now.commits.now transaction.now asked.now reply.now) }
+    ensures { IfOk result (λ may. may ≡ may_answer log.now.opened.now log.now.commits.now
+        transaction.now asked.now reply.now) }
 {
     match asked {
-        Asked::Unread => Ok(match reply {
-            Reply::Refused(refusal) => is_no_memory(refusal),
-            _ => false,
-        }),
-        Asked::Bad { at } => Ok(match reply {
-            Reply::Refused(refusal) => is_text_refusal(*at, refusal),
-            _ => false,
-        }),
-        Asked::Good(statement) => match transaction {
-            Transaction::Outside => Ok(outside_answers(log.commits, Kind::of(statement), reply)),
-            Transaction::Aborted => Ok(aborted_answers(Kind::of(statement), reply)),
-            Transaction::Open(active) => open_answers(alloc, log, active, statement, reply),
-        },
+        Asked::Unread => Ok(has_no_memory(reply)),
+        Asked::Bad { at } => Ok(is_outside_grammar(*at, reply)),
+        Asked::Good(statement) => {
+            statement_answers(alloc, log, transaction, &Answer { statement, reply })
+        }
     }
 }

@@ -2,20 +2,24 @@
 ghost use Rattle.std.specs.Prelude.{◌≡◌, ◌==◌, ◌++◌, IfOk};
 ghost use Rattle.std.specs.List.{list_any};
 ghost use Rattle.dk_si.specs.Machine.{asks_for, others};
-ghost use Rattle.dk_si.specs.HeldRows.{commit_has, some_commit_has, writes_row, is_rollback, has_pending_write, other_has_pending_write, is_blocked, commit_holds, is_last_above, open_holds, last_holds, session_holds, holds_against, holds};
+ghost use Rattle.dk_si.specs.HeldRows.{commit_has, some_commit_has, writes_row, is_rollback, has_pending_write};
+ghost use Rattle.dk_si.specs.HeldRows.{other_has_pending_write, is_blocked, commit_holds, is_last_above, open_holds};
+ghost use Rattle.dk_si.specs.HeldRows.{last_holds, session_holds, holds_against, holds};
 
-use crate::machine::{kind_in, session_at, write_set_in_flight};
-use crate::nets::{has_id, net_has};
-use crate::scene::{CommitLog, RowId, Scene};
-use crate::slices::{first, rest};
+use crate::scene::{RowId, Seat};
+use dk_plain::nets::{has_id, net_has};
+use dk_plain::slices::{first, rest};
 use dk_si::kind::Kind;
 use dk_si::machine::{Machine, Session, Transaction, WriteSet};
+use dk_states::call::{kind_in, write_set_in_flight};
+use dk_states::machine::session_at;
 use dk_types::{Commit, Holder, OutOfMemory};
 use std::alloc::Global;
 
 /// A transaction's claim on a row, against another one with that start.
 #[derive(Clone, Copy)]
-struct Hold {
+struct Hold<'a> {
+    seat: Seat<'a>,
     start: u64,
     transaction: u64,
     at: RowId,
@@ -76,7 +80,7 @@ fn some_pending_write(sessions: &[Session], at: RowId) -> bool
 }
 
 /// The sessions before and behind one.
-fn others(sessions: &[Session], number: u32) -> (&[Session], &[Session])
+pub fn others(sessions: &[Session], number: u32) -> (&[Session], &[Session])
     ensures { others sessions.now number ≡ result.0.now ++ result.1.now }
 {
     let number = number as u64;
@@ -122,20 +126,22 @@ fn is_last_above(commits: &[Commit], start: u64, at: RowId, commit: &Option<u64>
 }
 
 /// Whether the session's open transaction has that number, and it or the session's last calls changed the row.
-fn open_holds(
-    alloc: Global,
-    scene: &Scene<'_>,
-    hold: Hold,
-    session: &Session,
-) -> Result<bool, OutOfMemory>
-    ensures { IfOk result (λ held. held ≡ open_holds scene.now.opened.now scene.now.machine.now hold.transaction hold.at.table hold.at.row session.now) }
+fn open_holds(alloc: Global, hold: &Hold<'_>, session: &Session) -> Result<bool, OutOfMemory>
+    ensures { IfOk result (λ held. held ≡ open_holds hold.now.seat.opened.now
+        hold.now.seat.machine.now hold.now.transaction hold.now.at.table hold.now.at.row
+        session.now) }
 {
-    let at = hold.at;
-    let writes = write_set_in_flight(alloc, &scene.log(), &session.transaction, &session.asked)?;
+    let Hold {
+        seat,
+        transaction,
+        at,
+        ..
+    } = *hold;
+    let writes = write_set_in_flight(alloc, &seat.log(), &session.transaction, &session.asked)?;
     match &session.transaction {
         Transaction::Outside | Transaction::Aborted => Ok(false),
         Transaction::Open(active) => Ok(
-            active.number == hold.transaction
+            active.number == transaction
                 && (net_has(active.net.as_slice(), at.table, at.row)
                     || (writes_row(&session.writes, at.table, at.row)
                         || writes_row(&writes, at.table, at.row))),
@@ -144,43 +150,39 @@ fn open_holds(
 }
 
 /// Whether the session's last transaction has that number, and held the row up to its end.
-fn last_holds(machine: &Machine, hold: Hold, session: &Session) -> bool
-    ensures { result ≡ last_holds machine.now hold.start hold.transaction hold.at.table hold.at.row session.now }
+fn last_holds(hold: &Hold<'_>, session: &Session) -> bool
+    ensures { result ≡ last_holds hold.now.seat.machine.now hold.now.start hold.now.transaction
+        hold.now.at.table hold.now.at.row session.now }
 {
     let at = hold.at;
+    let commits = hold.seat.machine.commits.as_slice();
     match &session.last {
         None => false,
         Some(last) => {
             last.number == hold.transaction
-                && (is_last_above(machine.commits.as_slice(), hold.start, at, &last.commit)
+                && (is_last_above(commits, hold.start, at, &last.commit)
                     && (net_has(last.net.as_slice(), at.table, at.row)
                         || writes_row(&session.writes, at.table, at.row)))
         }
     }
 }
 
-fn session_holds(
-    alloc: Global,
-    scene: &Scene<'_>,
-    hold: Hold,
-    session: &Session,
-) -> Result<bool, OutOfMemory>
-    ensures { IfOk result (λ held. held ≡ session_holds scene.now.opened.now scene.now.machine.now hold.start hold.transaction hold.at.table hold.at.row session.now) }
+fn session_holds(alloc: Global, hold: &Hold<'_>, session: &Session) -> Result<bool, OutOfMemory>
+    ensures { IfOk result (λ held. held ≡ session_holds hold.now.seat.opened.now
+        hold.now.seat.machine.now hold.now.start hold.now.transaction hold.now.at.table
+        hold.now.at.row session.now) }
 {
-    let held = open_holds(alloc, scene, hold, session)?;
-    Ok(held || last_holds(scene.machine, hold, session))
+    let held = open_holds(alloc, hold, session)?;
+    Ok(held || last_holds(hold, session))
 }
 
-fn some_holds(
-    alloc: Global,
-    scene: &Scene<'_>,
-    hold: Hold,
-    sessions: &[Session],
-) -> Result<bool, OutOfMemory>
-    ensures { IfOk result (λ held. held ≡ list_any (session_holds scene.now.opened.now scene.now.machine.now hold.start hold.transaction hold.at.table hold.at.row) sessions.now) }
+fn some_holds(alloc: Global, hold: &Hold<'_>, sessions: &[Session]) -> Result<bool, OutOfMemory>
+    ensures { IfOk result (λ held. held ≡ list_any (session_holds hold.now.seat.opened.now
+        hold.now.seat.machine.now hold.now.start hold.now.transaction hold.now.at.table
+        hold.now.at.row) sessions.now) }
 {
     for session in sessions {
-        if session_holds(alloc, scene, hold, session)? {
+        if session_holds(alloc, hold, session)? {
             return Ok(true);
         }
     }
@@ -191,37 +193,40 @@ fn some_holds(
 #[tactic(auto, using(dk_si::proofs::PlaceLemmas::any_of_both))]
 fn holds_against(
     alloc: Global,
-    scene: &Scene<'_>,
+    seat: &Seat<'_>,
     start: u64,
     at: RowId,
     by: &Holder,
 ) -> Result<bool, OutOfMemory>
-    ensures { IfOk result (λ held. held ≡ holds_against scene.now.opened.now scene.now.machine.now scene.now.session start at.table at.row by.now) }
+    ensures { IfOk result (λ held. held ≡ holds_against seat.now.opened.now seat.now.machine.now
+        seat.now.number start at.table at.row by.now) }
 {
     match by {
-        Holder::Commit(n) => Ok(commit_holds(scene.machine, scene.session, start, *n, at)),
+        Holder::Commit(n) => Ok(commit_holds(seat.machine, seat.number, start, *n, at)),
         Holder::Transaction(k) => {
             let hold = Hold {
+                seat: *seat,
                 start,
                 transaction: *k,
                 at,
             };
-            let (earlier, later) = others(scene.machine.sessions.as_slice(), scene.session);
-            let held = some_holds(alloc, scene, hold, earlier)?;
-            Ok(held || some_holds(alloc, scene, hold, later)?)
+            let (earlier, later) = others(seat.machine.sessions.as_slice(), seat.number);
+            let held = some_holds(alloc, &hold, earlier)?;
+            Ok(held || some_holds(alloc, &hold, later)?)
         }
     }
 }
 
 /// Whether the session has an open transaction in this state, and the row is held so against it.
-pub fn holds(alloc: Global, scene: &Scene<'_>, at: RowId, by: &Holder) -> Result<bool, OutOfMemory>
-    ensures { IfOk result (λ held. held ≡ holds scene.now.opened.now scene.now.session at.table at.row by.now scene.now.machine.now) }
+pub fn holds(alloc: Global, seat: &Seat<'_>, at: RowId, by: &Holder) -> Result<bool, OutOfMemory>
+    ensures { IfOk result (λ held. held ≡ holds seat.now.opened.now seat.now.number at.table at.row
+        by.now seat.now.machine.now) }
 {
-    let Some(session) = session_at(scene.machine, scene.session) else {
+    let Some(session) = session_at(seat.machine, seat.number) else {
         return Ok(false);
     };
     match &session.transaction {
         Transaction::Outside | Transaction::Aborted => Ok(false),
-        Transaction::Open(active) => holds_against(alloc, scene, active.start, at, by),
+        Transaction::Open(active) => holds_against(alloc, seat, active.start, at, by),
     }
 }

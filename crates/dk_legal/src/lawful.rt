@@ -2,7 +2,9 @@
 ghost use Rattle.std.specs.Prelude.{◌≡◌, ◌&&◌};
 ghost use Rattle.std.specs.List.{list_all};
 ghost use Rattle.dk_values.specs.Names.{is_name};
-ghost use Rattle.dk_si.specs.LawfulCalls.{is_literal, is_lawful_expr, is_lawful_filter, is_lawful_item, are_lawful_items, is_lawful_limit, is_lawful_query, is_lawful_value, is_lawful, is_lawful_call};
+ghost use Rattle.dk_si.specs.LawfulCalls.{is_literal, is_lawful_expr, is_lawful_filter, is_lawful_item};
+ghost use Rattle.dk_si.specs.LawfulCalls.{are_lawful_items, is_lawful_limit, is_lawful_query, is_lawful_value};
+ghost use Rattle.dk_si.specs.LawfulCalls.{is_lawful, is_lawful_call};
 
 use dk_si::history::Asked;
 use dk_types::{
@@ -130,7 +132,8 @@ fn are_lawful_columns(columns: &[ColumnSpot]) -> bool
 }
 
 fn are_lawful_sets(sets: &[Set]) -> bool
-    ensures { result ≡ list_all (λ set. is_name set.column.name && is_lawful_expr set.value) sets.now }
+    ensures { result ≡ list_all (λ set. is_name set.column.name
+        && is_lawful_expr set.value) sets.now }
 {
     sets.iter().all(|set| is_name(set.column.name.as_slice()) && is_lawful_expr(&set.value))
 }

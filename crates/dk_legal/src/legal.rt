@@ -1,7 +1,9 @@
 //! Whether a history is legal.
 ghost use Rattle.std.specs.Prelude.{◌≡◌, ◌-◌, IfOk};
 ghost use Rattle.std.specs.List.{list_all, list_any};
-ghost use Rattle.dk_si.specs.IsLegal.{keeps_stop, may_have_stopped, stop_at, iteration_in, may_have_reached, is_reached, stands_before, are_in_order, follows_at, spent_at, stands_in_order, iterates_at, stops_well, iterates_well, is_legal};
+ghost use Rattle.dk_si.specs.IsLegal.{keeps_stop, may_have_stopped, stop_at, iteration_in, may_have_reached};
+ghost use Rattle.dk_si.specs.IsLegal.{is_reached, stands_before, are_in_order, follows_at, spent_at, stands_in_order};
+ghost use Rattle.dk_si.specs.IsLegal.{iterates_at, stops_well, iterates_well, is_legal};
 
 use crate::exchanges::exchanges;
 use crate::step::are_steps;

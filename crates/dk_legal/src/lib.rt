@@ -1,32 +1,32 @@
-//! Whether a history is legal: the machine of `dk_si` as a plain, slow program.
+//! Whether a history is legal.
 //!
-//! A history lists calls, begun transactions and replies. `run_slow` answers whether it is legal: whether each entry is a
-//! step of the machine from the state after the entries before it, and whether stops and checkpoints stand as they must over
-//! the whole list. Each of its functions is proved to give what the definition of its name in `dk_si` says. It stands on
-//! `dk_si`.
+//! A history lists calls, begun transactions and replies. `run_slow` answers whether it is legal: whether each entry is
+//! a step of the machine from the state after the entries before it, and whether stops and checkpoints stand as they
+//! must over the whole list. `run_slow_alone` answers whether it is a legal history of one thread, in which the entries
+//! of each call stand together. Each function is proved to give what the definition of its name in `dk_si` says. The
+//! crate stands on `dk_states`, which has the machine's states.
 #![tactic(auto)]
 
+#[cfg(test)]
+mod acts;
+mod alone;
 mod answers;
-mod database;
 mod exchanges;
 mod founded;
 mod held;
+#[cfg(test)]
+mod histories;
 mod lawful;
 mod legal;
-pub mod machine;
-mod meaning;
-mod nets;
+#[cfg(test)]
+mod machine_tests;
 mod refusals;
 mod same;
 mod scene;
-#[cfg(test)]
-mod scripts;
 mod since;
-mod size;
-mod slices;
 mod step;
 #[cfg(test)]
 mod tests;
-mod weights;
 
+pub use alone::run_slow_alone;
 pub use legal::run_slow;

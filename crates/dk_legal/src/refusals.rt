@@ -1,31 +1,54 @@
-//! What a reply says, as the machine's step tells it apart.
+//! What a refusal says, as the machine's step tells it apart.
 ghost use Rattle.std.specs.Prelude.{◌≡◌};
-ghost use Rattle.dk_si.specs.ReplyTests.{is_no_transaction, is_in_transaction, is_aborted, is_no_memory, is_fault, is_stopped, is_spent_refusal, is_ended, is_begun, is_next, is_committed};
+ghost use Rattle.dk_si.specs.Meaning.{is_text_refusal, is_same_refusal};
+ghost use Rattle.dk_si.specs.ReplyTests.{is_refused, is_no_transaction, is_in_transaction, is_aborted, is_no_memory};
+ghost use Rattle.dk_si.specs.ReplyTests.{is_fault, is_stopped, is_spent_refusal};
 
-use dk_types::{Commit, Receipt, Refusal, Reply};
+use dk_types::{Commit, Refusal, Reply};
 
-pub fn is_no_transaction(refusal: &Refusal) -> bool
-    ensures { result ≡ is_no_transaction refusal.now }
+/// Whether a call is refused that needs a transaction, where there is none.
+pub fn has_no_transaction(reply: &Reply) -> bool
+    ensures { result ≡ is_refused is_no_transaction reply.now }
 {
-    matches!(refusal, Refusal::NoTransaction)
+    matches!(reply, Reply::Refused(Refusal::NoTransaction))
 }
 
-pub fn is_in_transaction(refusal: &Refusal) -> bool
-    ensures { result ≡ is_in_transaction refusal.now }
+/// Whether a call is refused that may not stand in a transaction.
+pub fn is_in_transaction(reply: &Reply) -> bool
+    ensures { result ≡ is_refused is_in_transaction reply.now }
 {
-    matches!(refusal, Refusal::InTransaction)
+    matches!(reply, Reply::Refused(Refusal::InTransaction))
 }
 
-pub fn is_aborted(refusal: &Refusal) -> bool
-    ensures { result ≡ is_aborted refusal.now }
+/// Whether a call is refused in a transaction that was aborted.
+pub fn is_aborted(reply: &Reply) -> bool
+    ensures { result ≡ is_refused is_aborted reply.now }
 {
-    matches!(refusal, Refusal::Aborted)
+    matches!(reply, Reply::Refused(Refusal::Aborted))
 }
 
-pub fn is_no_memory(refusal: &Refusal) -> bool
-    ensures { result ≡ is_no_memory refusal.now }
+/// Whether a call is refused for want of memory.
+pub fn has_no_memory(reply: &Reply) -> bool
+    ensures { result ≡ is_refused is_no_memory reply.now }
 {
-    matches!(refusal, Refusal::OutOfMemory)
+    matches!(reply, Reply::Refused(Refusal::OutOfMemory))
+}
+
+/// Whether a text is refused that is outside the grammar, which ends at this byte.
+pub fn is_outside_grammar(_at: u64, reply: &Reply) -> bool
+    ensures { result ≡ is_refused (is_text_refusal _at) reply.now }
+{
+    matches!(reply, Reply::Refused(Refusal::Unsupported))
+}
+
+/// Whether a call is refused since no further transaction can begin.
+pub fn is_spent(reply: &Reply) -> bool
+    ensures { result ≡ is_refused is_spent_refusal reply.now }
+{
+    match reply {
+        Reply::Refused(Refusal::Exhausted(numbers)) => numbers.iteration == 0,
+        _ => false,
+    }
 }
 
 /// Whether a list of entries can't tell its cause.
@@ -48,43 +71,19 @@ pub fn is_stopped(commits: &[Commit], refusal: &Refusal) -> bool
     }
 }
 
-/// Whether no further transaction can begin.
-pub fn is_spent_refusal(refusal: &Refusal) -> bool
-    ensures { result ≡ is_spent_refusal refusal.now }
+/// Whether two refusals of a statement by its meaning or its size are the same.
+pub fn is_same_refusal(refusal: &Refusal, other: &Refusal) -> bool
+    ensures { result ≡ is_same_refusal refusal.now other.now }
 {
-    match refusal {
-        Refusal::Exhausted(numbers) => numbers.iteration == 0,
-        _ => false,
-    }
-}
-
-/// Whether the receipt has the number of the next commit.
-pub fn is_next(commits: &[Commit], receipt: &Receipt) -> bool
-    ensures { result ≡ is_next commits.now receipt.now }
-{
-    receipt.number == commits.len() as u64 + 1
-}
-
-pub fn is_ended(reply: &Reply) -> bool
-    ensures { result ≡ is_ended reply.now }
-{
-    matches!(reply, Reply::Ended)
-}
-
-pub fn is_begun(start: u64, reply: &Reply) -> bool
-    ensures { result ≡ is_begun start reply.now }
-{
-    match reply {
-        Reply::Begun { start: at } => *at == start,
-        _ => false,
-    }
-}
-
-pub fn is_committed(commits: &[Commit], reply: &Reply) -> bool
-    ensures { result ≡ is_committed commits.now reply.now }
-{
-    match reply {
-        Reply::Committed { receipt } => is_next(commits, receipt),
+    match (refusal, other) {
+        (Refusal::Unsupported, Refusal::Unsupported) => true,
+        (
+            Refusal::TooLarge { bytes, rows },
+            Refusal::TooLarge {
+                bytes: other_bytes,
+                rows: other_rows,
+            },
+        ) => *bytes == *other_bytes && *rows == *other_rows,
         _ => false,
     }
 }

@@ -1,25 +1,25 @@
 //! What surrounds a question to the machine.
 ghost use Rattle.std.specs.Prelude.{◌≡◌};
 
+use dk_plain::CommitLog;
 use dk_si::database::Table;
 use dk_si::history::Entry;
-use dk_si::machine::Machine;
-use dk_types::Commit;
+use dk_si::machine::{Machine, Session};
 
-/// The opened database and the commits behind it.
+/// A session of that number, in a state of the machine.
 #[derive(Clone, Copy)]
-pub struct CommitLog<'a> {
+pub struct Seat<'a> {
     pub opened: &'a [Table],
-    pub commits: &'a [Commit],
+    pub machine: &'a Machine,
+    pub number: u32,
 }
 
-/// Where a session's reply would come: the opened database, the entries before it, and the state behind them.
+/// Where a session's reply would come: its seat, the session itself, and the entries before.
 #[derive(Clone, Copy)]
 pub struct Scene<'a> {
-    pub opened: &'a [Table],
+    pub seat: Seat<'a>,
+    pub session: &'a Session,
     pub before: &'a [Entry],
-    pub machine: &'a Machine,
-    pub session: u32,
 }
 
 /// A row of a table.
@@ -29,7 +29,7 @@ pub struct RowId {
     pub row: u64,
 }
 
-impl<'a> Scene<'a> {
+impl<'a> Seat<'a> {
     /// The opened database and the commits so far.
     pub fn log(&self) -> CommitLog<'a>
         ensures opened { result.opened.now ≡ self.now.opened.now }

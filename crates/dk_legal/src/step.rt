@@ -6,12 +6,13 @@ ghost use Rattle.dk_si.specs.IsStep.{may_call, may_begin, may_reply, is_step, ar
 use crate::answers::may_answer;
 use crate::founded::is_founded;
 use crate::lawful::is_lawful_call;
-use crate::machine::{first_state, kind_in, next, session_at};
-use crate::scene::Scene;
+use crate::scene::{Scene, Seat};
 use dk_si::database::Table;
 use dk_si::history::{Asked, Entry};
 use dk_si::limits::MAX_TRANSACTIONS;
 use dk_si::machine::{Machine, Session, Transaction};
+use dk_states::call::asks_to_begin;
+use dk_states::machine::{first_state, next, session_at};
 use dk_types::{OutOfMemory, Reply};
 use std::alloc::Global;
 
@@ -25,31 +26,24 @@ fn may_call(asked: &Asked, session: &Session) -> bool
 fn may_begin(machine: &Machine, number: u64, start: u64, session: &Session) -> bool
     ensures { result ≡ may_begin machine.now number start session.now }
 {
-    let begins = match kind_in(&session.asked) {
-        None => false,
-        Some(kind) => kind.begins_one(),
-    };
-    (begins && matches!(session.transaction, Transaction::Outside))
+    (asks_to_begin(&session.asked) && matches!(session.transaction, Transaction::Outside))
         && ((number == machine.begun && number < MAX_TRANSACTIONS)
             && start == machine.commits.len() as u64)
 }
 
 /// Whether the session's state allows the reply, and the other sessions do.
-fn may_reply(
-    alloc: Global,
-    scene: &Scene<'_>,
-    session: &Session,
-    reply: &Reply,
-) -> Result<bool, OutOfMemory>
-    ensures { IfOk result (λ may. may ≡ may_reply scene.now.opened.now scene.now.session scene.now.before.now scene.now.machine.now reply.now session.now) }
+fn may_reply(alloc: Global, scene: &Scene<'_>, reply: &Reply) -> Result<bool, OutOfMemory>
+    ensures { IfOk result (λ may. may ≡ may_reply scene.now.seat.opened.now scene.now.seat.number
+        scene.now.before.now scene.now.seat.machine.now reply.now scene.now.session.now) }
 {
+    let Scene { seat, session, .. } = *scene;
     let Some(asked) = &session.asked else {
         return Ok(false);
     };
-    if !may_answer(alloc, &scene.log(), &session.transaction, asked, reply)? {
+    if !may_answer(alloc, &seat.log(), &session.transaction, asked, reply)? {
         return Ok(false);
     }
-    is_founded(alloc, scene, session, reply)
+    is_founded(alloc, scene, reply)
 }
 
 /// Whether an entry may come behind those before it, where this is the state.
@@ -73,13 +67,17 @@ pub fn is_step(
         Entry::Call { asked, .. } => Ok(may_call(asked, session)),
         Entry::Begun { number, start, .. } => Ok(may_begin(machine, *number, *start, session)),
         Entry::Reply { reply, .. } => {
-            let scene = Scene {
+            let seat = Seat {
                 opened,
-                before,
                 machine,
-                session: number,
+                number,
             };
-            may_reply(alloc, &scene, session, reply)
+            let scene = Scene {
+                seat,
+                session,
+                before,
+            };
+            may_reply(alloc, &scene, reply)
         }
     }
 }

@@ -4,4 +4,7 @@ use Rattle.dk_si.specs.MayAnswer.{is_refused_from}
 use Rattle.dk_legal.proofs.answers.is_refused_since.Given as goal
 
 abbrev pub invariant-loop-step : goal.invariant-loop-step
-invariant-loop-step l = is_refused_from l.log.opened.now l.log.commits.now l.statement l.refusal (l.start + l.step) (l.more - l.step) ≡ is_refused_from l.log.opened.now l.log.commits.now l.statement l.refusal l.start l.more
+invariant-loop-step l =
+    is_refused_from l.log.opened.now l.log.commits.now l.refused.statement.now l.refused.refusal.now (l.start +
+    l.step) (l.more - l.step)
+    ≡ is_refused_from l.log.opened.now l.log.commits.now l.refused.statement.now l.refused.refusal.now l.start l.more

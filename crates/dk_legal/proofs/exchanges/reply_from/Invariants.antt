@@ -4,4 +4,5 @@ use Rattle.dk_si.specs.Exchanges.{reply_from}
 use Rattle.dk_legal.proofs.exchanges.reply_from.Given as goal
 
 abbrev pub invariant-loop-entry : goal.invariant-loop-entry
-invariant-loop-entry l = (l.at ≡ l.place + l.entry-index) × (reply_from l.session l.at (drop l.entry-index l.entries) ≡ reply_from l.session l.place l.entries)
+invariant-loop-entry l = (l.at ≡ l.place + l.entry-index) × (reply_from l.session l.at (drop l.entry-index l.entries)
+    ≡ reply_from l.session l.place l.entries)

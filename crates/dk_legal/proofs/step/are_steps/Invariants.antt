@@ -5,4 +5,5 @@ use Rattle.dk_si.specs.IsStep.{are_steps}
 use Rattle.dk_legal.proofs.step.are_steps.Given as goal
 
 abbrev pub invariant-loop-i : goal.invariant-loop-i
-invariant-loop-i l = are_steps l.opened (take l.i l.entries) l.machine (drop l.i l.entries) ≡ are_steps l.opened [] first_state l.entries
+invariant-loop-i l = are_steps l.opened (take l.i l.entries) l.machine (drop l.i l.entries)
+    ≡ are_steps l.opened [] first_state l.entries

@@ -1,0 +1,10 @@
+-- What is kept so far, and what is kept of the rest.
+use Rattle.std.proofs.Common.{◌≡◌, ◌++◌, drop}
+use Rattle.std.specs.List.{filter}
+use Rattle.std.specs.Prelude.{nat_lt}
+use Rattle.dk_plain.proofs.nets.committed.Given as goal
+
+abbrev pub invariant-loop-item : goal.invariant-loop-item
+invariant-loop-item g l =
+    l.kept.items ++ filter (λ item. nat_lt (g.T.Keyed.key item) l.count) (drop l.item-index l.items)
+    ≡ filter (λ item. nat_lt (g.T.Keyed.key item) l.count) l.items
