@@ -1,0 +1,16 @@
+pub mod Invariant
+pub mod StepLemmas
+pub mod HolderLemmas
+pub mod MoveLemmas
+pub mod ChangeLemmas
+pub mod CallLemmas
+pub mod SeatLemmas
+pub mod ReplyLemmas
+pub mod PointLemmas
+pub mod LegalLemmas
+pub mod Examples
+pub mod VersionLemmas
+pub mod DeleteLemmas
+pub mod OrderLemmas
+pub mod OrderEventLemmas
+pub mod SnapshotLemmas

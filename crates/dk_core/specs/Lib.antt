@@ -1,0 +1,12 @@
+pub mod Layout
+pub mod Core
+pub mod Findings
+pub mod Changes
+pub mod Entries
+pub mod Replies
+pub mod Commits
+pub mod Allows
+pub mod Step
+pub mod Reading
+pub mod Versions
+pub mod Laws
