@@ -5,8 +5,8 @@ use Rattle.std.specs.Str.Lines.{strip_carriage_return}
 use Rattle.dk_io.specs.Lines.{line_content, contents_after, lines_after, last_line}
 use Rattle.dk_io.specs.ReaderState.{ReaderState}
 use Rattle.dk_io.specs.LinesLeft.{lines_left, Pops}
+use Rattle.dk_io.specs.NextLine.{IsReadOut}
 use Rattle.dk_script.specs.LineSteps.{IfBothKnown}
-use Rattle.dk_script.specs.RunState.{IsReadOut}
 
 last_none : (begun : List ℕ) → map line_content (last_line begun) ≡ [] → begun ≡ []
 last_none [] h = refl
@@ -16,7 +16,10 @@ not_nil : (xs : List ℕ) (x : ℕ) → xs ++ x ∷ [] ≡ [] → ⊥
 not_nil [] x h = cc
 not_nil (y ∷ xs) x h = cc
 
-none_by : (t : Bool) (begun : List ℕ) (b : ℕ) (text : List ℕ) → (contents_after (begun ++ b ∷ []) text ≡ [] → (begun ++ b ∷ [] ≡ []) × (text ≡ [])) → map line_content (cond t (strip_carriage_return begun ∷ lines_after [] text) (lines_after (begun ++ b ∷ []) text)) ≡ [] → (begun ≡ []) × (b ∷ text ≡ [])
+none_by : (t : Bool) (begun : List ℕ) (b : ℕ) (text : List ℕ)
+    → (contents_after (begun ++ b ∷ []) text ≡ [] → (begun ++ b ∷ [] ≡ []) × (text ≡ []))
+    → map line_content (cond t (strip_carriage_return begun ∷ lines_after [] text)
+    (lines_after (begun ++ b ∷ []) text)) ≡ [] → (begun ≡ []) × (b ∷ text ≡ [])
 none_by true begun b text more h = absurd (cc h)
 none_by false begun b text more h = absurd (not_nil begun b (more h).0)
 
@@ -30,12 +33,15 @@ rest_nil [] ys h = h
 rest_nil (x ∷ xs) ys h = absurd (cc h)
 
 -- the reader came to the end of the input
-pub end_popped : (old new : ReaderState) (a b : Option (List ℕ)) → Pops (lines_left old a) None (lines_left new b) → IfBothKnown (lines_left old a) b (λ lines rest. (lines ≡ []) × (rest ≡ []))
+pub end_popped : (old new : ReaderState) (a b : Option (List ℕ)) → Pops (lines_left old a) None (lines_left new b)
+    → IfBothKnown (lines_left old a) b (λ lines rest. (lines ≡ []) × (rest ≡ []))
 end_popped old new None b pops = tt
 end_popped old new (Some text) None pops = absurd pops
-end_popped old new (Some text) (Some rest) pops = (pops.0, rest_nil new.held rest (no_lines (new.held ++ rest) new.begun pops.1).1)
+end_popped old new (Some text) (Some rest) pops =
+    (pops.0, rest_nil new.held rest (no_lines (new.held ++ rest) new.begun pops.1).1)
 
 -- it had come there before
-pub end_before : (reading : ReaderState) (a : Option (List ℕ)) → IsReadOut reading a → IfBothKnown (lines_left reading a) a (λ lines rest. (lines ≡ []) × (rest ≡ []))
+pub end_before : (reading : ReaderState) (a : Option (List ℕ)) → IsReadOut reading a
+    → IfBothKnown (lines_left reading a) a (λ lines rest. (lines ≡ []) × (rest ≡ []))
 end_before reading None out = tt
 end_before reading (Some text) out = (rw (out.begun, out.held, out.source) refl, out.source)

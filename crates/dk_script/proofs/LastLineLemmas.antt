@@ -15,19 +15,29 @@ use Rattle.dk_script.specs.LineSteps.{IfBothKnown}
 use Rattle.dk_script.specs.RunEnds.{EndsWithLastLine, Replies, Prints}
 
 -- the last line was written, or a front of it where the sink failed
-pub closed : {K E : Type 0} (g : Ghosts K) (r : Result (Unit {0}) E) (old new : K) (last : List ℕ) → OnOk r (Appends (g.taken old) (g.taken new) last) → OnErr r (TakesFront (g.taken old) (g.taken new) last)
+pub closed : {K E : Type 0} (g : Ghosts K) (r : Result (Unit {0}) E) (old new : K) (last : List ℕ)
+    → OnOk r (Appends (g.taken old) (g.taken new) last) → OnErr r (TakesFront (g.taken old) (g.taken new) last)
     → HasCause (g.faults old) (g.faults new) r → EndsWithLastLine g old new [] last
 closed g (Ok v) old new last ok err cause =
-    record { count = length last; within = omega arith; taken = subst (Appends (g.taken old) (g.taken new)) (sym (take-length last)) ok; whole = inl refl }
+    record {
+      count = length last;
+      within = omega arith;
+      taken =
+          subst (Appends (g.taken old) (g.taken new)) (sym (take-length last)) ok;
+      whole = inl refl;
+    }
 closed g (Err e) old new last ok err cause =
     record { count = err.0; within = err.1; taken = err.2; whole = inr cause.failed }
 
-whole_since : (earlier before now count len : ℕ) → earlier ≤ before → (count ≡ len) ⊎ Rose before now → (count ≡ len) ⊎ Rose earlier now
+whole_since : (earlier before now count len : ℕ) → earlier ≤ before → (count ≡ len) ⊎ Rose before now → (count ≡ len)
+    ⊎ Rose earlier now
 whole_since earlier before now count len later (inl e) = inl e
 whole_since earlier before now count len later (inr rose) = inr (omega (arith, rose))
 
 -- behind a text
-closes_behind : {K : Type 0} (g : Ghosts K) (old mid new : K) (text last : List ℕ) → g.faults old ≤ g.faults mid → Appends (g.taken old) (g.taken mid) text → EndsWithLastLine g mid new [] last → EndsWithLastLine g old new text last
+closes_behind : {K : Type 0} (g : Ghosts K) (old mid new : K) (text last : List ℕ) → g.faults old ≤ g.faults mid
+    → Appends (g.taken old) (g.taken mid) text → EndsWithLastLine g mid new [] last
+    → EndsWithLastLine g old new text last
 closes_behind g old mid new text last later taken closes =
     record {
       count = closes.count;
@@ -37,19 +47,28 @@ closes_behind g old mid new text last later taken closes =
     }
 
 -- behind the replies to a known script
-pub prints : {K : Type 0} (g : Ghosts K) (a b : Option (List ℕ)) (old mid new : K) (status : Status) → g.faults old ≤ g.faults mid → IfBothKnown a b (λ script rest. Replies status script rest (g.taken old) (g.taken mid))
-    → EndsWithLastLine g mid new [] (last_line status) → IfBothKnown a b (λ script rest. Prints g old new status script rest)
+pub prints : {K : Type 0} (g : Ghosts K) (a b : Option (List ℕ)) (old mid new : K) (status : Status)
+    → g.faults old ≤ g.faults mid
+    → IfBothKnown a b (λ script rest. Replies status script rest (g.taken old) (g.taken mid))
+    → EndsWithLastLine g mid new [] (last_line status)
+    → IfBothKnown a b (λ script rest. Prints g old new status script rest)
 prints g None b old mid new status later replies last = tt
 prints g (Some script) None old mid new status later replies last = absurd replies
 prints g (Some script) (Some rest) old mid new status later replies last =
-    record { text = replies.text; due = replies.due; sent = closes_behind g old mid new replies.text (last_line status) later replies.sent last }
+    record {
+      text = replies.text;
+      due = replies.due;
+      sent =
+          closes_behind g old mid new replies.text (last_line status) later replies.sent last;
+    }
 
 -- a run of a script does not end with wrong words
 pub no_usage : (status : Status) (read write : Type 0) → HasCauseIn ⊥ read write status → status ≡ Usage → ⊥
 no_usage status read write cause e = subst (HasCauseIn ⊥ read write) e cause
 
 -- and its cause is one of the whole program
-pub same_cause : (status : Status) (usage read write : Type 0) → HasCauseIn ⊥ read write status → HasCauseIn usage read write status
+pub same_cause : (status : Status) (usage read write : Type 0) → HasCauseIn ⊥ read write status
+    → HasCauseIn usage read write status
 same_cause Usage usage read write cause = absurd cause
 same_cause Done usage read write cause = tt
 same_cause (BadLine line) usage read write cause = tt
@@ -57,7 +76,4 @@ same_cause ReadFault usage read write cause = cause
 same_cause WriteFault usage read write cause = cause
 same_cause OutOfMemory usage read write cause = tt
 same_cause ScriptTooLong usage read write cause = tt
-same_cause DiskFault usage read write cause = absurd cause
-same_cause NotADatabase usage read write cause = absurd cause
-same_cause (VersionUnknown found) usage read write cause = absurd cause
-same_cause (Damaged damage) usage read write cause = absurd cause
+same_cause status usage read write cause = absurd cause

@@ -10,13 +10,17 @@ value_grows [] n = omega arith
 value_grows (d ∷ digits) n = omega (arith, value_grows digits (10 * n + (d - 48)))
 
 -- a number that is too large by now stays so
-pub value_over : (digits : List ℕ) (n d : ℕ) (rest : List ℕ) → 2 ^ 64 ≤ 10 * n + (d - 48) → value_from n (d ∷ rest) ≡ value_from 0 digits → None ≡ value_in digits
+pub value_over : (digits : List ℕ) (n d : ℕ) (rest : List ℕ) → 2 ^ 64 ≤ 10 * n + (d - 48)
+    → value_from n (d ∷ rest) ≡ value_from 0 digits → None ≡ value_in digits
 value_over digits n d rest large reads =
     let over : 2 ^ 64 ≤ value_from 0 digits = omega (arith, value_grows rest (10 * n + (d - 48)), reads) in
     let test : nat_lt (value_from 0 digits) (2 ^ 64) ≡ false = le-ltb _ _ over in
     sym (ap (λ b. cond b (Some (value_from 0 digits)) None) test)
 
 -- the same, where the digit is the one that comes next
-pub value_over_at : (digits : List ℕ) (n i : ℕ) → i < length digits → ((2 ^ 64 - 1) - (get_or digits i 0 - 48)) / 10 < n → value_from n (drop i digits) ≡ value_from 0 digits → None ≡ value_in digits
+pub value_over_at : (digits : List ℕ) (n i : ℕ) → i < length digits
+    → ((2 ^ 64 - 1) - (get_or digits i 0 - 48)) / 10 < n → value_from n (drop i digits) ≡ value_from 0 digits
+    → None ≡ value_in digits
 value_over_at digits n i within large reads =
-    value_over digits n (get_or digits i 0) (drop (suc i) digits) (omega arith) (ap (value_from n) (sym (drop-cons digits i 0 within)) ∙ reads)
+    value_over digits n (get_or digits i 0) (drop (suc i) digits) (omega arith)
+    (ap (value_from n) (sym (drop-cons digits i 0 within)) ∙ reads)

@@ -13,31 +13,38 @@ drop_next (y ∷ xs) (suc i) x is =
     drop_next xs i x is ∙ ap (λ (k : ℕ). x ∷ drop k (y ∷ xs)) (sym next)
 
 -- the rows from the i-th on begin with it
-pub next_row : (rows : List (List Value)) (i : ℕ) (row : List Value) → slice_get rows i ≡ Some row → rows_text (drop i rows) ≡ row_text row ++ rows_text (drop (i + 1) rows)
+pub next_row : (rows : List (List Value)) (i : ℕ) (row : List Value) → slice_get rows i ≡ Some row
+    → rows_text (drop i rows) ≡ row_text row ++ rows_text (drop (i + 1) rows)
 next_row rows i row is = ap rows_text (drop_next rows i row is)
 
 -- and so do the values
-pub next_value : (row : List Value) (i : ℕ) (v : Value) → slice_get row i ≡ Some v → more_values (drop i row) ≡ (codes "," ++ value_text v) ++ more_values (drop (i + 1) row)
+pub next_value : (row : List Value) (i : ℕ) (v : Value) → slice_get row i ≡ Some v
+    → more_values (drop i row) ≡ (codes "," ++ value_text v) ++ more_values (drop (i + 1) row)
 next_value row i v is = ap more_values (drop_next row i v is)
 
 -- a comma and the next value were put
-pub value_put : (out comma put all : List ℕ) (row : List Value) (i : ℕ) (v : Value) → comma ≡ out ++ codes "," → put ≡ comma ++ value_text v → slice_get row i ≡ Some v
+pub value_put : (out comma put all : List ℕ) (row : List Value) (i : ℕ) (v : Value) → comma ≡ out ++ codes ","
+    → put ≡ comma ++ value_text v → slice_get row i ≡ Some v
     → out ++ more_values (drop i row) ≡ all → put ++ more_values (drop (i + 1) row) ≡ all
 value_put out comma put all row i v e f is so_far =
     let rest = more_values (drop (i + 1) row) in
     ap (λ xs. xs ++ rest) (f ∙ ap (λ xs. xs ++ value_text v) e)
     ∙ (append_assoc (out ++ codes ",") (value_text v) rest ∙ (append_assoc out (codes ",") (value_text v ++ rest)
-    ∙ (ap (λ xs. out ++ xs) (sym (append_assoc (codes ",") (value_text v) rest) ∙ sym (next_value row i v is)) ∙ so_far)))
+    ∙ (ap (λ xs. out ++ xs) (sym (append_assoc (codes ",") (value_text v) rest) ∙ sym (next_value row i v is))
+    ∙ so_far)))
 
 -- the next row was put
-pub row_put : (out put all : List ℕ) (rows : List (List Value)) (i : ℕ) (row : List Value) → put ≡ out ++ row_text row → slice_get rows i ≡ Some row
+pub row_put : (out put all : List ℕ) (rows : List (List Value)) (i : ℕ) (row : List Value) → put ≡ out ++ row_text row
+    → slice_get rows i ≡ Some row
     → out ++ rows_text (drop i rows) ≡ all → put ++ rows_text (drop (i + 1) rows) ≡ all
 row_put out put all rows i row e is so_far =
     ap (λ xs. xs ++ rows_text (drop (i + 1) rows)) e
-    ∙ (append_assoc out (row_text row) (rows_text (drop (i + 1) rows)) ∙ (ap (λ xs. out ++ xs) (sym (next_row rows i row is)) ∙ so_far))
+    ∙ (append_assoc out (row_text row) (rows_text (drop (i + 1) rows))
+    ∙ (ap (λ xs. out ++ xs) (sym (next_row rows i row is)) ∙ so_far))
 
 -- a row that has a first value
-pub row_text_first : (row : List Value) (v : Value) → slice_get row 0 ≡ Some v → row_text row ≡ value_text v ++ more_values (drop 1 row) ++ codes "\n"
+pub row_text_first : (row : List Value) (v : Value) → slice_get row 0 ≡ Some v
+    → row_text row ≡ value_text v ++ more_values (drop 1 row) ++ codes "\n"
 row_text_first row v is = ap row_text (drop_next row 0 v is)
 
 -- a fact for an error, whatever was returned

@@ -17,7 +17,8 @@ use Rattle.dk_script.specs.Words.{unblank, bytes_left, word_at, keyword_at, name
 -- behind a comma, where there is one, an item and others
 abbrev pub more_after : {A : Type 0} → Reader A → Reader (List A) → List ℕ → Option (List ℕ) → Option (List A × List ℕ)
 more_after item others text None = Some ([], text)
-more_after item others text (Some rest) = item rest >>= λ first. others first.1 >>= λ more. Some (first.0 ∷ more.0, more.1)
+more_after item others text (Some rest) =
+    item rest >>= λ first. others first.1 >>= λ more. Some (first.0 ∷ more.0, more.1)
 
 -- { , item }, in at most so many turns: each takes a byte at least
 abbrev pub more_at : {A : Type 0} → Reader A → ℕ → Reader (List A)
@@ -26,7 +27,8 @@ more_at item (suc turns) text = more_after item (more_at item turns) text (mark_
 
 -- item { , item }
 abbrev pub list_at : {A : Type 0} → Reader A → Reader (List A)
-list_at item text = item text >>= λ first. more_at item (length first.1) first.1 >>= λ others. Some (first.0 ∷ others.0, others.1)
+list_at item text = item text >>= λ first. more_at item (length first.1) first.1 >>= λ others.
+    Some (first.0 ∷ others.0, others.1)
 
 -- number
 abbrev pub positive_at : Reader Value
@@ -72,8 +74,8 @@ column_at n text = do
   Some (record { column = name.0; kind = type.Big }, rest)
 
 -- only blanks are left
-abbrev pub ended : {A : Type 0} → A → List ℕ → Option A
-ended x text = if length (unblank text) == 0 then Some x else None
+abbrev pub at_end : {A : Type 0} → A → List ℕ → Option A
+at_end x text = if length (unblank text) == 0 then Some x else None
 
 -- no more columns than a table may have
 abbrev pub few_columns : List ColumnSpot → Option (List ColumnSpot)
@@ -88,7 +90,7 @@ create_at n text = do
   columns ← list_at (column_at n) rest
   rest ← mark_at 41 columns.1
   few ← few_columns columns.0
-  ended (Create table.0 few) rest
+  at_end (Create table.0 few) rest
 
 -- INSERT INTO name VALUES tuple { , tuple }, from INTO on
 unfoldable pub insert_at : ℕ → List ℕ → Option Statement
@@ -97,7 +99,7 @@ insert_at n text = do
   table ← spot_at n rest
   rest ← keyword_at (codes "values") table.1
   tuples ← list_at (tuple_at n) rest
-  ended (Insert table.0 tuples.0) tuples.1
+  at_end (Insert table.0 tuples.0) tuples.1
 
 -- SELECT * FROM name, from the sign on
 unfoldable pub select_at : ℕ → List ℕ → Option Statement
@@ -105,7 +107,7 @@ select_at n text = do
   rest ← mark_at 42 text
   rest ← keyword_at (codes "from") rest
   table ← spot_at n rest
-  ended (Select (whole_table (place_at n text) table.0)) table.1
+  at_end (Select (whole_table (place_at n text) table.0)) table.1
 
 -- the statement behind its first word
 abbrev pub statement_by : ℕ → List ℕ → List ℕ → Option Statement

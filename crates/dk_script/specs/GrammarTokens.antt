@@ -4,8 +4,8 @@ use Rattle.std.specs.List.{list_all}
 use Rattle.std.specs.Char.{to_ascii_lowercase}
 use Rattle.dk_script.specs.Words.{is_blank, is_digit, begins_word, continues_word, value_from}
 
--- A word, its letters folded to lower case; a number; a sign, which is one byte. Before it stands how many bytes of the text
--- are left from its first byte on.
+-- A word, its letters folded to lower case; a number; a sign, which is one byte. Before it stands how many bytes of
+-- the text are left from its first byte on.
 pub data Token : Type 0 where
   Word : ℕ → List ℕ → Token
   Number : ℕ → ℕ → Token
@@ -27,8 +27,10 @@ begins test (b ∷ bytes) = test b
 
 -- the bytes are that token
 abbrev pub IsToken : List ℕ → Token → Type 0
-IsToken bytes (Word left word) = (begins begins_word bytes ≡ true) × (list_all continues_word bytes ≡ true) × (word ≡ map to_ascii_lowercase bytes)
-IsToken bytes (Number left n) = (begins is_digit bytes ≡ true) × (list_all is_digit bytes ≡ true) × (n ≡ value_from 0 bytes)
+IsToken bytes (Word left word) = (begins begins_word bytes ≡ true) × (list_all continues_word bytes ≡ true)
+    × (word ≡ map to_ascii_lowercase bytes)
+IsToken bytes (Number left n) = (begins is_digit bytes ≡ true) × (list_all is_digit bytes ≡ true)
+    × (n ≡ value_from 0 bytes)
 IsToken bytes (Sign left b) = (is_sign b ≡ true) × (bytes ≡ b ∷ [])
 
 -- the bytes behind a token make it longer
@@ -42,4 +44,5 @@ abbrev pub AreTokens : List ℕ → List Token → Type 0
 AreTokens text [] = list_all is_blank text ≡ true
 AreTokens text (token ∷ tokens) =
     (blanks bytes rest : List ℕ) × (text ≡ blanks ++ (bytes ++ rest)) × (list_all is_blank blanks ≡ true)
-    × IsToken bytes token × (left_of token ≡ length (bytes ++ rest)) × (is_longer token rest ≡ false) × AreTokens rest tokens
+    × IsToken bytes token × (left_of token ≡ length (bytes ++ rest)) × (is_longer token rest ≡ false)
+    × AreTokens rest tokens

@@ -1,10 +1,12 @@
 -- What a run does with one line.
-use Rattle.std.specs.Prelude.{◌≡◌, ◌≤◌, ℕ, ◌+◌, true, false, List, [], ◌∷◌, Option, Some, None, IfSome, ⊤}
+use Rattle.std.specs.Prelude.{◌≡◌, ◌≤◌, ◌<◌, ◌↔◌, ℕ, ◌+◌, Bool, true, false, List, [], ◌∷◌, Option, Some, None, IfSome, Result, Err, ⊤}
 use Rattle.std.specs.Io.KnownBytes.{Appends}
 use Rattle.dk_io.specs.Sinks.{TakesFront}
-use Rattle.dk_io.specs.Passing.{Passes}
+use Rattle.dk_io.specs.NextLine.{CountsOn}
+use Rattle.dk_io.specs.LinesGiven.{Passes}
 use Rattle.dk_io.specs.ReaderState.{ReaderState}
 use Rattle.dk_io.specs.LinesLeft.{lines_left, Pops}
+use Rattle.dk_io.specs.declared.streams.Source.{Ghosts}
 use Rattle.dk_types.specs.declared.status.Status.{Status}
 use Rattle.dk_types.specs.declared.status.Status.TheVariants.{BadLine, ReadFault, WriteFault, OutOfMemory, ScriptTooLong}
 use Rattle.dk_script.specs.Database.{Database}
@@ -25,7 +27,8 @@ pub record AnswersLine (db next : Database) (old new : Option (List ℕ)) (line 
 
 -- why a line stopped a run, and what was sent before
 abbrev pub StopsLine : ReaderState → Database → Option (List ℕ) → Option (List ℕ) → Status → Type 0
-StopsLine reading db old new (BadLine line) = (line ≡ reading.number) × (new ≡ old) × (is_good (Some reading.line) ≡ false)
+StopsLine reading db old new (BadLine line) = (line ≡ reading.number) × (new ≡ old)
+    × (is_good (Some reading.line) ≡ false)
 StopsLine reading db old new WriteFault = TakesFront old new (request_text db (request_in (Some reading.line)))
 StopsLine reading db old new OutOfMemory = TakesFront old new (request_text db (request_in (Some reading.line)))
 StopsLine reading db old new status = ⊥
@@ -52,11 +55,20 @@ pub record FailsWithin (reading next : ReaderState) (before after : Option (List
   pub passes : Passes reading next before after []
 
 -- why the next line stopped a run, and what was sent before
-abbrev pub StopsNext : Run → Run → Option (List ℕ) → Option (List ℕ) → Option (List ℕ) → Option (List ℕ) → Status → Type 0
+abbrev pub StopsNext : Run → Run → Option (List ℕ) → Option (List ℕ) → Option (List ℕ) → Option (List ℕ) → Status
+    → Type 0
 StopsNext run next before after old new (BadLine line) =
     (line ≡ run.reader.number + 1) × (new ≡ old) × IfSome (lines_left run.reader before) BeginsBad
 StopsNext run next before after old new ReadFault = (new ≡ old) × FailsWithin run.reader next.reader before after
 StopsNext run next before after old new ScriptTooLong = new ≡ old
-StopsNext run next before after old new WriteFault = IfSome (lines_left run.reader before) (λ lines. TakesFront old new (output run.store lines))
-StopsNext run next before after old new OutOfMemory = IfSome (lines_left run.reader before) (λ lines. TakesFront old new (output run.store lines))
+StopsNext run next before after old new WriteFault =
+    IfSome (lines_left run.reader before) (λ lines. TakesFront old new (output run.store lines))
+StopsNext run next before after old new OutOfMemory =
+    IfSome (lines_left run.reader before) (λ lines. TakesFront old new (output run.store lines))
 StopsNext run next before after old new status = ⊥
+
+-- what was read is counted, and a script is too long exactly where that passes its limit
+pub record CountsScript {S : Type 0} (g : Ghosts S) (old new : ReaderState) (before after : S)
+    (result : Result Bool Status) : Type 0 where
+  pub counts : CountsOn g old new before after
+  pub much : (result ≡ Err ScriptTooLong) ↔ (new.total < new.taken)

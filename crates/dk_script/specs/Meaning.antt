@@ -29,31 +29,34 @@ abbrev pub unsupported : Database → Reply × Database
 unsupported db = (Refused Unsupported, db)
 
 -- the database after a commit with these tables
-abbrev pub committed : Database → List Table → Database
-committed db tables = record { tables = tables; commits = db.commits + 1 }
+abbrev pub after_commit : Database → List Table → Database
+after_commit db tables = record { tables = tables; commits = db.commits + 1 }
 
 -- a change is committed exactly where something is changed
-abbrev pub changed : Database → ℕ → TableNet → Reply × Database
-changed db count part =
-    if changes part then (Changed count (Some (next_receipt db)), committed db (apply_part part db.tables)) else (Changed count None, db)
+abbrev pub change_outcome : Database → ℕ → TableNet → Reply × Database
+change_outcome db count part =
+    if changes part then (Changed count (Some (next_receipt db)), after_commit db (apply_part part db.tables))
+    else (Changed count None, db)
 
 -- what a statement of that meaning does
-abbrev pub carried_out : Database → Meaning → Reply × Database
-carried_out db (meant.Rows rows) = (Rows rows, db)
-carried_out db (meant.Change count part) = changed db count part
-carried_out db (meant.Create name schema) = (Created (next_receipt db), committed db (apply (act.Create name schema) db.tables))
-carried_out db (meant.Refused refusal) = (Refused refusal, db)
-carried_out db meant.Nothing = unsupported db
+abbrev pub meaning_outcome : Database → Meaning → Reply × Database
+meaning_outcome db (meant.Rows rows) = (Rows rows, db)
+meaning_outcome db (meant.Change count part) = change_outcome db count part
+meaning_outcome db (meant.Create name schema) =
+    (Created (next_receipt db), after_commit db (apply (act.Create name schema) db.tables))
+meaning_outcome db (meant.Refused refusal) = (Refused refusal, db)
+meaning_outcome db meant.Nothing = unsupported db
 
 -- new rows in the table at a place
-abbrev pub added : Database → ℕ → List (List Value) → Reply × Database
-added db place rows = changed db (length rows) (record { table = place; updates = []; deletes = []; rows = rows })
+abbrev pub rows_outcome : Database → ℕ → List (List Value) → Reply × Database
+rows_outcome db place rows =
+    change_outcome db (length rows) (record { table = place; updates = []; deletes = []; rows = rows })
 
 -- the reply to a statement of the forms that scripts may have, and the database after it
 abbrev pub step : Database → Statement → Reply × Database
-step db (statement.Create table columns) = carried_out db (meaning db.tables (statement.Create table columns))
-step db (statement.Insert table tuples) = carried_out db (meaning db.tables (statement.Insert table tuples))
-step db (statement.Select query) = carried_out db (meaning db.tables (statement.Select query))
+step db (statement.Create table columns) = meaning_outcome db (meaning db.tables (statement.Create table columns))
+step db (statement.Insert table tuples) = meaning_outcome db (meaning db.tables (statement.Insert table tuples))
+step db (statement.Select query) = meaning_outcome db (meaning db.tables (statement.Select query))
 step db other = unsupported db
 
 -- the reply that an answer stands for: rows are named by their table

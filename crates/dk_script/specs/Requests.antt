@@ -1,16 +1,18 @@
--- What a line of a script asks: a session's number from 1 to 32 without leading zeros, `: `, a statement's text in UTF-8,
--- and `;` as the last byte.
+-- What a line of a script asks: a session's number from 1 to the greatest without leading zeros, `: `, a statement's
+-- text in UTF-8, and `;` as the last byte.
 use Rattle.std.specs.Prelude.{ℕ, ◌+◌, ◌-◌, ◌*◌, ◌&&◌, List, [], ◌∷◌, length, take, drop, ◌==◌, nat_eq, nat_le, slice_index, codes, Option, Some, None, if◌then◌else◌}
 use Rattle.std.specs.List.{starts_with}
 use Rattle.std.specs.Str.{is_utf8}
 use Rattle.dk_script.specs.Readers.{◌>>=◌}
 use Rattle.dk_script.specs.Words.{is_digit}
+use Rattle.dk_script.specs.declared.line.TheConstants.{MAX_SESSION}
 
--- the number of one digit, or of two and at most 32
+-- the number of one digit, or of two and at most the greatest
 abbrev pub session_behind : ℕ → List ℕ → Option (ℕ × List ℕ)
 session_behind n [] = Some (n, [])
 session_behind n (b ∷ rest) =
-    if is_digit b then (if nat_le (10 * n + (b - 48)) 32 then Some (10 * n + (b - 48), rest) else None) else Some (n, b ∷ rest)
+    if is_digit b then (if nat_le (10 * n + (b - 48)) MAX_SESSION then Some (10 * n + (b - 48), rest) else None)
+    else Some (n, b ∷ rest)
 
 -- the session's number at the front, without leading zeros
 abbrev pub session_at : List ℕ → Option (ℕ × List ℕ)
@@ -29,4 +31,5 @@ utf8_text text = if is_utf8 text then Some text else None
 
 -- what a line asks
 abbrev pub request_of : List ℕ → Option (ℕ × List ℕ)
-request_of line = session_at line >>= λ session. text_in session.1 >>= λ text. utf8_text text >>= λ text. Some (session.0, text)
+request_of line = session_at line >>= λ session. text_in session.1 >>= λ text. utf8_text text >>= λ text.
+    Some (session.0, text)

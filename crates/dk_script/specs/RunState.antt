@@ -1,22 +1,17 @@
 -- What a run keeps between its lines.
 use Rattle.std.specs.Prelude.{◌≡◌, ◌<◌, ◌≤◌, ℕ, true, false, List, [], length, Option}
-use Rattle.std.specs.Io.KnownBytes.{IsAtEnd}
-use Rattle.dk_io.specs.ReaderState.{ReaderState}
+use Rattle.dk_io.specs.NextLine.{IsReadOut}
+use Rattle.dk_io.specs.ReaderState.{ReaderState, fresh_reader}
 use Rattle.dk_script.specs.Database.{Database}
 use Rattle.dk_script.specs.declared.line.TheConstants.{MAX_LINE}
 use Rattle.dk_script.specs.declared.run.TheConstants.{MAX_SCRIPT}
 
 -- a reader of a script that has read nothing
 abbrev pub start : ReaderState
-start = record { begun = []; held = []; line = []; number = 0; taken = 0; ended = false; limit = MAX_LINE; total = MAX_SCRIPT }
+start = fresh_reader MAX_LINE MAX_SCRIPT
 
--- nothing is left where the input has ended
-pub record IsReadOut (reading : ReaderState) (left : Option (List ℕ)) : Type 0 where
-  pub begun : reading.begun ≡ []
-  pub held : reading.held ≡ []
-  pub source : IsAtEnd left
-
--- the limits are the script's and kept, no commit but of a line was made, the page is empty, and the end of the input is the source's
+-- the limits are the script's and kept, no commit but of a line was made, the page is empty, and the end of the input
+-- is the source's
 pub record IsReady (reading : ReaderState) (db : Database) (page : List ℕ) (left : Option (List ℕ)) : Type 0 where
   pub limit : reading.limit ≡ MAX_LINE
   pub total : reading.total ≡ MAX_SCRIPT

@@ -5,6 +5,8 @@ use Rattle.dk_types.specs.declared.reply.Reply.{Reply}
 use Rattle.dk_syntax.specs.declared.statement.Statement.{Statement}
 use Rattle.dk_io.specs.Lines.{line_contents}
 use Rattle.dk_script.specs.Requests.{request_of}
+use Rattle.dk_script.specs.declared.line.TheConstants.{MAX_LINE}
+use Rattle.dk_script.specs.declared.run.TheConstants.{SERVED}
 use Rattle.dk_script.specs.Database.{Database}
 use Rattle.dk_script.specs.Grammar.{statement_of}
 use Rattle.dk_script.specs.Meaning.{step, unsupported}
@@ -14,9 +16,9 @@ use Rattle.dk_script.specs.Texts.{session_text}
 abbrev pub Line : Type 0
 Line = Option (List ℕ)
 
--- what a line of at most 16,777,216 bytes asks
+-- what a line within the limit asks
 abbrev pub short_request : List ℕ → Option (ℕ × List ℕ)
-short_request line = if nat_le (length line) 16777216 then request_of line else None
+short_request line = if nat_le (length line) MAX_LINE then request_of line else None
 
 abbrev pub request_in : Line → Option (ℕ × List ℕ)
 request_in None = None
@@ -32,17 +34,17 @@ abbrev pub by_statement : Database → Option Statement → Reply × Database
 by_statement db None = unsupported db
 by_statement db (Some statement) = step db statement
 
--- the reply to a text, and the database after it: session 1 alone is served
-abbrev pub answered : Database → ℕ → List ℕ → Reply × Database
-answered db session text = if session == 1 then by_statement db (statement_of text) else unsupported db
+-- the reply to a text, and the database after it: one session alone is served
+abbrev pub text_outcome : Database → ℕ → List ℕ → Reply × Database
+text_outcome db session text = if session == SERVED then by_statement db (statement_of text) else unsupported db
 
 abbrev pub request_text : Database → Option (ℕ × List ℕ) → List ℕ
 request_text db None = []
-request_text db (Some ask) = session_text ask.0 [] (answered db ask.0 ask.1).0
+request_text db (Some ask) = session_text ask.0 [] (text_outcome db ask.0 ask.1).0
 
 abbrev pub request_after : Database → Option (ℕ × List ℕ) → Database
 request_after db None = db
-request_after db (Some ask) = (answered db ask.0 ask.1).1
+request_after db (Some ask) = (text_outcome db ask.0 ask.1).1
 
 -- the replies to what is asked, in order
 abbrev pub replies : Database → List (ℕ × List ℕ) → List ℕ

@@ -35,7 +35,8 @@ word_len (b ∷ text) = if begins_word b then prefix_len continues_word (b ∷ t
 -- a word, its letters folded to lower case
 abbrev pub word_in : List ℕ → Option (List ℕ × List ℕ)
 word_in text =
-    if word_len text == 0 then None else Some (map to_ascii_lowercase (take (word_len text) text), drop (word_len text) text)
+    if word_len text == 0 then None else Some
+    (map to_ascii_lowercase (take (word_len text) text), drop (word_len text) text)
 
 abbrev pub word_at : Reader (List ℕ)
 word_at text = word_in (unblank text)

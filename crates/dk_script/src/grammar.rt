@@ -1,7 +1,7 @@
 //! The grammar of the statements.
 ghost use Rattle.std.specs.Prelude.{◌≡◌, ◌^◌, ◌<◌, ◌≤◌, ℕ, length, Some, IfOk};
 ghost use Rattle.dk_script.specs.Readers.{Reader, Gives, with_front};
-ghost use Rattle.dk_script.specs.Grammar.{more_at, list_at, positive_at, negative_at, value_at, place_at, literal_at, spot_at, tuple_at, column_at, ended, create_at, insert_at, select_at, statement_by, statement_of};
+ghost use Rattle.dk_script.specs.Grammar.{more_at, list_at, positive_at, negative_at, value_at, place_at, literal_at, spot_at, tuple_at, column_at, at_end, create_at, insert_at, select_at, statement_by, statement_of};
 ghost use Rattle.dk_script.specs.GrammarStatements.{IsStatementText};
 
 use crate::words::{ParseError, keyword, mark, mark_after, name, number, skip_blanks, word};
@@ -149,8 +149,8 @@ fn list<M: Member>(alloc: Global, whole: u32, text: &[u8]) -> Result<(List<M>, &
 }
 
 /// The statement, where only blanks are left behind it.
-fn ended(statement: Statement, text: &[u8]) -> Result<Statement, ParseError>
-    ensures { Gives (λ x. x) result (ended statement text.now) }
+fn at_end(statement: Statement, text: &[u8]) -> Result<Statement, ParseError>
+    ensures { Gives (λ x. x) result (at_end statement text.now) }
 {
     if skip_blanks(text).is_empty() {
         Ok(statement)
@@ -172,7 +172,7 @@ fn create(alloc: Global, whole: u32, text: &[u8]) -> Result<Statement, ParseErro
     if columns.len() > MAX_COLUMNS {
         return Err(ParseError::Syntax);
     }
-    ended(Statement::Create { table, columns }, rest)
+    at_end(Statement::Create { table, columns }, rest)
 }
 
 #[tactic(auto, unfolding(crate::specs::Grammar::insert_at))]
@@ -184,7 +184,7 @@ fn insert(alloc: Global, whole: u32, text: &[u8]) -> Result<Statement, ParseErro
     let (table, rest) = spot(alloc, whole, rest)?;
     let rest = keyword(alloc, rest, b"values")?;
     let (tuples, rest) = list::<Tuple>(alloc, whole, rest)?;
-    ended(Statement::Insert { table, tuples }, rest)
+    at_end(Statement::Insert { table, tuples }, rest)
 }
 
 #[tactic(auto, unfolding(crate::specs::Grammar::select_at))]
@@ -204,7 +204,7 @@ fn select(alloc: Global, whole: u32, text: &[u8]) -> Result<Statement, ParseErro
         keys: List::new(alloc),
         limit: None,
     };
-    ended(Statement::Select { query }, rest)
+    at_end(Statement::Select { query }, rest)
 }
 
 /// The statement that a first word and what stands behind it are.
@@ -229,7 +229,8 @@ pub fn parse(alloc: Global, text: &[u8]) -> Result<Statement, ParseError>
     requires { length text.now < 2 ^ 32 }
     // What is read is in the grammar, and what is in the grammar is read unless memory runs out.
     ensures found { IfOk result (λ statement. IsStatementText text.now statement) }
-    ensures only { (statement : _) → IsStatementText text.now statement → Gives (λ x. x) result (Some statement) }
+    ensures only { (statement : _) → IsStatementText text.now statement
+        → Gives (λ x. x) result (Some statement) }
     ensures exact { Gives (λ x. x) result (statement_of text.now) }
 {
     read_statement(alloc, text)

@@ -55,8 +55,10 @@ fn send_full<K: Sink>(sink: &mut K, page: &mut Vec<u8>) -> Result<(), Status>
 /// Puts a row on the page, and hands the page to the sink where it is full.
 #[tactic(auto, using(crate::proofs::PageLemmas::front_nothing))]
 fn write_row<K: Sink>(sink: &mut K, page: &mut Vec<u8>, row: &RowRef<'_>) -> Result<(), Status>
-    ensures ok { OnOk result (PagesOut K.Sink sink.old sink.new page.new.items (page.old.items ++ row_text row.now)) }
-    ensures err { OnErr result (SendsFront K.Sink sink.old sink.new (page.old.items ++ row_text row.now)) }
+    ensures ok { OnOk result (
+        PagesOut K.Sink sink.old sink.new page.new.items (page.old.items ++ row_text row.now)) }
+    ensures err { OnErr result (
+        SendsFront K.Sink sink.old sink.new (page.old.items ++ row_text row.now)) }
     ensures fault { IsErrOf result Status.WriteFault → SinkFailed K.Sink sink.old sink.new }
     ensures stop { IsOutputStop result }
     ensures later { K.faults sink.old ≤ K.faults sink.new }
@@ -69,8 +71,10 @@ fn write_row<K: Sink>(sink: &mut K, page: &mut Vec<u8>, row: &RowRef<'_>) -> Res
 
 /// Writes rows, a line each.
 fn write_rows<K: Sink>(sink: &mut K, page: &mut Vec<u8>, rows: &Rows) -> Result<(), Status>
-    ensures ok { OnOk result (PagesOut K.Sink sink.old sink.new page.new.items (page.old.items ++ rows_text rows.now)) }
-    ensures err { OnErr result (SendsFront K.Sink sink.old sink.new (page.old.items ++ rows_text rows.now)) }
+    ensures ok { OnOk result (
+        PagesOut K.Sink sink.old sink.new page.new.items (page.old.items ++ rows_text rows.now)) }
+    ensures err { OnErr result (
+        SendsFront K.Sink sink.old sink.new (page.old.items ++ rows_text rows.now)) }
     ensures fault { IsErrOf result Status.WriteFault → SinkFailed K.Sink sink.old sink.new }
     ensures stop { IsOutputStop result }
     ensures later { K.faults sink.old ≤ K.faults sink.new }
@@ -98,7 +102,8 @@ pub fn put_head(
     session: u32,
     answer: Answer,
 ) -> Result<(), OutOfMemory>
-    ensures ok { OnOk result (page.new.items ≡ page.old.items ++ head_text store.now session answer) }
+    ensures ok { OnOk result (
+        page.new.items ≡ page.old.items ++ head_text store.now session answer) }
 {
     put_number(page, session)?;
     put(page, b" ")?;
@@ -118,9 +123,10 @@ fn write_body<K: Sink>(
     store: &Store,
     answer: Answer,
 ) -> Result<(), Status>
-    ensures ok { OnOk result (
-        PagesOut K.Sink sink.old sink.new page.new.items (page.old.items ++ body_text store.now answer)) }
-    ensures err { OnErr result (SendsFront K.Sink sink.old sink.new (page.old.items ++ body_text store.now answer)) }
+    ensures ok { OnOk result (PagesOut
+        K.Sink sink.old sink.new page.new.items (page.old.items ++ body_text store.now answer)) }
+    ensures err { OnErr result (
+        SendsFront K.Sink sink.old sink.new (page.old.items ++ body_text store.now answer)) }
     ensures fault { IsErrOf result Status.WriteFault → SinkFailed K.Sink sink.old sink.new }
     ensures stop { IsOutputStop result }
     ensures later { K.faults sink.old ≤ K.faults sink.new }

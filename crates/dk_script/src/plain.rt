@@ -1,5 +1,5 @@
-//! What a small script prints, written plainly: all lines first, then each in turn. It is slow, takes memory for the whole
-//! output, and is there to compare a run with.
+//! What a small script prints, written plainly: all lines first, then each in turn. It is slow, takes memory for the
+//! whole output, and is there to compare a run with.
 ghost use Rattle.std.specs.Prelude.{◌≡◌, ◌+◌, ◌^◌, ◌<◌, ◌≤◌, ◌++◌, true, false, Ok, Some, IfOk, OnOk};
 ghost use Rattle.std.specs.Str.Lines.{strip_carriage_return};
 ghost use Rattle.dk_io.specs.Lines.{line_content, line_contents};
@@ -56,7 +56,8 @@ fn read_lines(alloc: Global, script: &[u8]) -> Result<Vec<Option<Bytes>>, OutOfM
 pub fn lines_of(alloc: Global, script: &[u8]) -> Result<Vec<Option<Bytes>>, OutOfMemory>
     // What is read are the lines of the grammar, and it has no others.
     ensures found { IfOk result (λ read. AreLines script.now read.items) }
-    ensures only { (lines : _) → AreLines script.now lines → IfOk result (λ read. read.items ≡ lines) }
+    ensures only { (lines : _) → AreLines script.now lines
+        → IfOk result (λ read. read.items ≡ lines) }
     ensures exact { IfOk result (λ read. read.items ≡ line_contents script.now) }
 {
     read_lines(alloc, script)
@@ -96,7 +97,8 @@ fn answer_line(
     ensures good { result ≡ Ok true → is_good (Some line.now) ≡ true }
     ensures text { result ≡ Ok true
         → out.new.items ≡ out.old.items ++ request_text store.old (request_in (Some line.now)) }
-    ensures state { result ≡ Ok true → store.new ≡ request_after store.old (request_in (Some line.now)) }
+    ensures state { result ≡ Ok true
+        → store.new ≡ request_after store.old (request_in (Some line.now)) }
     ensures bad { result ≡ Ok false → is_good (Some line.now) ≡ false }
     ensures same { result ≡ Ok false → out.new.items ≡ out.old.items }
     ensures commits { OnOk result (store.new.commits ≤ store.old.commits + 1) }
@@ -122,7 +124,8 @@ fn answer_if_kept(
 ) -> Result<bool, OutOfMemory>
     requires { store.old.commits + 1 < 2 ^ 64 }
     ensures good { result ≡ Ok true → is_good line.now ≡ true }
-    ensures text { result ≡ Ok true → out.new.items ≡ out.old.items ++ request_text store.old (request_in line.now) }
+    ensures text { result ≡ Ok true
+        → out.new.items ≡ out.old.items ++ request_text store.old (request_in line.now) }
     ensures state { result ≡ Ok true → store.new ≡ request_after store.old (request_in line.now) }
     ensures bad { result ≡ Ok false → is_good line.now ≡ false }
     ensures same { result ≡ Ok false → out.new.items ≡ out.old.items }
@@ -144,7 +147,8 @@ fn put_bad_line(out: &mut Vec<u8>, line: u64) -> Result<(), OutOfMemory>
 
 /// What a script prints, up to its end or its first line that is outside the grammar, which the last line names.
 pub fn plain_output(alloc: Global, script: &[u8]) -> Result<Vec<u8>, OutOfMemory>
-    ensures { IfOk result (λ out. out.items ≡ script_output script.now ++ end_text (first_bad_line script.now)) }
+    ensures { IfOk result (λ out.
+        out.items ≡ script_output script.now ++ end_text (first_bad_line script.now)) }
 {
     let lines = lines_of(alloc, script)?;
     let mut store = Store::new(alloc);

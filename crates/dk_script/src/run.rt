@@ -1,13 +1,12 @@
 //! The run of a script: from a source, line by line, to a sink.
-ghost use Rattle.std.specs.Prelude.{◌≡◌, ◌+◌, ◌^◌, ◌<◌, ◌≤◌, ◌↔◌, true, false, Ok, Err, [], Some, length, IfOk, IfErr, IfSome, OnOk, OnErr, IsErrOf};
-ghost use Rattle.dk_io.specs.LinesLeft.{lines_left, Counts};
-ghost use Rattle.dk_script.specs.LineSteps.{IfBothKnown, AnswersLine, AnswersNext, StopsLine, StopsNext};
+ghost use Rattle.std.specs.Prelude.{◌≡◌, ◌+◌, ◌^◌, ◌<◌, ◌≤◌, true, false, Ok, [], Some, length, IfOk, IfErr, OnOk, IsErrOf};
+ghost use Rattle.dk_io.specs.LinesLeft.{lines_left};
+ghost use Rattle.dk_script.specs.LineSteps.{IfBothKnown, AnswersLine, AnswersNext, CountsScript, StopsLine, StopsNext};
 ghost use Rattle.dk_script.specs.Meaning.{reply_of};
-ghost use Rattle.dk_script.specs.RunEnds.{Replies};
+ghost use Rattle.dk_script.specs.RunEnds.{IsTooLongScript, Replies, RunsScript};
 ghost use Rattle.dk_script.specs.RunState.{IsReady, IsToAnswer, start};
-ghost use Rattle.dk_script.specs.Script.{answered, empty_database};
+ghost use Rattle.dk_script.specs.Script.{text_outcome, empty_database};
 ghost use Rattle.dk_script.specs.Sinks.{SinkFailed, SourceFailed, HasCauseIn};
-ghost use Rattle.dk_script.specs.declared.run.TheConstants.{MAX_SCRIPT};
 
 use crate::grammar::parse;
 use crate::line::{MAX_LINE, request_of};
@@ -44,7 +43,7 @@ pub fn reply(
     requires commits { store.old.commits + 1 < 2 ^ 64 }
     requires short { length text.now < 2 ^ 32 }
     ensures answer { IfOk result (λ answer.
-        answered store.old session text.now ≡ (reply_of store.new answer, store.new)) }
+        text_outcome store.old session text.now ≡ (reply_of store.new answer, store.new)) }
     ensures commits { OnOk result (store.new.commits ≤ store.old.commits + 1) }
 {
     if session != SERVED {
@@ -89,21 +88,21 @@ fn answer_next_line<S: Source, K: Sink>(
     sink: &mut K,
 ) -> Result<bool, Status>
     requires { IsReady run.old.reader run.old.store run.old.page.items (S.left source.old) }
-    ensures ready { OnOk result (IsReady run.new.reader run.new.store run.new.page.items (S.left source.new)) }
-    ensures more { result ≡ Ok true
-        → AnswersNext run.old run.new (S.left source.old) (S.left source.new) (K.taken sink.old) (K.taken sink.new) }
+    ensures ready { OnOk result (
+        IsReady run.new.reader run.new.store run.new.page.items (S.left source.new)) }
+    ensures more { result ≡ Ok true → AnswersNext run.old run.new
+        (S.left source.old) (S.left source.new) (K.taken sink.old) (K.taken sink.new) }
     ensures end { result ≡ Ok false → (sink.new ≡ sink.old)
         × IfBothKnown (lines_left run.old.reader (S.left source.old)) (S.left source.new)
         (λ lines rest. (lines ≡ []) × (rest ≡ [])) }
-    ensures stop { IfErr result (λ status.
-        StopsNext run.old run.new (S.left source.old) (S.left source.new)
-        (K.taken sink.old) (K.taken sink.new) status) }
-    ensures cause { IfErr result (λ status.
-        HasCauseIn ⊥ (SourceFailed S.Source source.old source.new) (SinkFailed K.Sink sink.old sink.new) status) }
-    ensures much { (result ≡ Err Status.ScriptTooLong) ↔ (run.new.reader.total < run.new.reader.taken) }
-    ensures taken { Counts run.old.reader.taken (S.left source.old) run.new.reader.taken (S.left source.new) }
-    ensures total { run.new.reader.total ≡ run.old.reader.total }
-    ensures later { (S.faults source.old ≤ S.faults source.new) × (K.faults sink.old ≤ K.faults sink.new) }
+    ensures stop { IfErr result (λ status. StopsNext run.old run.new
+        (S.left source.old) (S.left source.new) (K.taken sink.old) (K.taken sink.new) status) }
+    ensures cause { IfErr result (λ status. HasCauseIn ⊥
+        (SourceFailed S.Source source.old source.new)
+        (SinkFailed K.Sink sink.old sink.new) status) }
+    ensures counts { CountsScript S.Source
+        run.old.reader run.new.reader source.old source.new result }
+    ensures later { K.faults sink.old ≤ K.faults sink.new }
 {
     if run.reader.has_ended() {
         return Ok(false);
@@ -135,10 +134,10 @@ fn answer_lines<S: Source, K: Sink>(
     requires page { run.old.page.items ≡ [] }
     ensures replies { IfBothKnown (S.left source.old) (S.left source.new) (λ script rest.
         Replies result script rest (K.taken sink.old) (K.taken sink.new)) }
+    ensures too_long { IfBothKnown (S.left source.old) (S.left source.new)
+        (IsTooLongScript result) }
     ensures cause { HasCauseIn ⊥
         (SourceFailed S.Source source.old source.new) (SinkFailed K.Sink sink.old sink.new) result }
-    ensures too_long { IfBothKnown (S.left source.old) (S.left source.new) (λ script rest.
-        (result ≡ Status.ScriptTooLong) ↔ (MAX_SCRIPT + length rest < length script)) }
     ensures later { K.faults sink.old ≤ K.faults sink.new }
 {
     'lines: loop {
@@ -152,13 +151,7 @@ fn answer_lines<S: Source, K: Sink>(
 
 /// Runs the script of a source over tables of its own, up to the last line.
 pub fn run_script<S: Source, K: Sink>(alloc: Global, source: &mut S, sink: &mut K) -> Status
-    ensures replies { IfBothKnown (S.left source.old) (S.left source.new) (λ script rest.
-        Replies result script rest (K.taken sink.old) (K.taken sink.new)) }
-    ensures cause { HasCauseIn ⊥
-        (SourceFailed S.Source source.old source.new) (SinkFailed K.Sink sink.old sink.new) result }
-    ensures too_long { IfBothKnown (S.left source.old) (S.left source.new) (λ script rest.
-        (result ≡ Status.ScriptTooLong) ↔ (MAX_SCRIPT + length rest < length script)) }
-    ensures later { K.faults sink.old ≤ K.faults sink.new }
+    ensures { RunsScript S.Source K.Sink source.old source.new sink.old sink.new result }
 {
     let Ok(reader) = LineReader::new(alloc, MAX_LINE, MAX_SCRIPT) else {
         return Status::OutOfMemory;

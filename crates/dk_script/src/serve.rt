@@ -1,11 +1,10 @@
 //! The whole of what the program does, between its words, its input and its output.
-ghost use Rattle.std.specs.Prelude.{◌≡◌, ◌+◌, ◌<◌, ◌≤◌, ◌↔◌, true, false, [], length, map, string_bytes, OnOk, OnErr};
+ghost use Rattle.std.specs.Prelude.{◌≡◌, ◌≤◌, ◌↔◌, true, false, [], map, string_bytes};
 ghost use Rattle.dk_script.specs.LastLine.{last_line};
 ghost use Rattle.dk_script.specs.LineSteps.{IfBothKnown};
-ghost use Rattle.dk_script.specs.RunEnds.{Replies, EndsWithLastLine, Prints};
+ghost use Rattle.dk_script.specs.RunEnds.{Replies, IsTooLongScript, EndsWithLastLine, Prints};
 ghost use Rattle.dk_script.specs.Script.{is_run};
 ghost use Rattle.dk_script.specs.Sinks.{SinkFailed, SourceFailed, HasCauseIn};
-ghost use Rattle.dk_script.specs.declared.run.TheConstants.{MAX_SCRIPT};
 
 use crate::output::write_last_line;
 use crate::run::run_script;
@@ -46,8 +45,7 @@ fn carry_out<S: Source, K: Sink>(
     ensures cause { HasCauseIn (is_run (map string_bytes words.now) ≡ false)
         (SourceFailed S.Source source.old source.new) (SinkFailed K.Sink sink.old sink.new) result }
     ensures too_long { is_run (map string_bytes words.now) ≡ true
-        → IfBothKnown (S.left source.old) (S.left source.new) (λ script rest.
-        (result ≡ Status.ScriptTooLong) ↔ (MAX_SCRIPT + length rest < length script)) }
+        → IfBothKnown (S.left source.old) (S.left source.new) (IsTooLongScript result) }
     ensures later { K.faults sink.old ≤ K.faults sink.new }
 {
     if is_run(words) {
@@ -58,8 +56,8 @@ fn carry_out<S: Source, K: Sink>(
 }
 
 /// Carries out the command that the words are: `run` answers the script that the source gives, line by line, and hands
-/// each reply to the sink before it reads on. The disk is not used yet, and nothing pauses. It returns the status and the
-/// disk.
+/// each reply to the sink before it reads on. The disk is not used yet, and nothing pauses. It returns the status and
+/// the disk.
 pub fn serve<S: Source, K: Sink, D: Disk + Send, P: Pause + Sync>(
     alloc: Global,
     words: &[String],
@@ -70,17 +68,17 @@ pub fn serve<S: Source, K: Sink, D: Disk + Send, P: Pause + Sync>(
 ) -> (Status, D)
     // Wrong words get the usage line, and nothing is read.
     ensures usage { (result.0 ≡ Status.Usage) ↔ (is_run (map string_bytes words.now) ≡ false) }
-    ensures usage_line { result.0 ≡ Status.Usage
-        → (source.new ≡ source.old) × EndsWithLastLine K.Sink sink.old sink.new [] (last_line Status.Usage) }
+    ensures usage_line { result.0 ≡ Status.Usage → (source.new ≡ source.old)
+        × EndsWithLastLine K.Sink sink.old sink.new [] (last_line Status.Usage) }
 
     // The replies and the last line, by the status.
     ensures output { IfBothKnown (S.left source.old) (S.left source.new) (λ script rest.
         Prints K.Sink sink.old sink.new result.0 script rest) }
     ensures too_long { is_run (map string_bytes words.now) ≡ true
-        → IfBothKnown (S.left source.old) (S.left source.new) (λ script rest.
-        (result.0 ≡ Status.ScriptTooLong) ↔ (MAX_SCRIPT + length rest < length script)) }
+        → IfBothKnown (S.left source.old) (S.left source.new) (IsTooLongScript result.0) }
     ensures cause { HasCauseIn (is_run (map string_bytes words.now) ≡ false)
-        (SourceFailed S.Source source.old source.new) (SinkFailed K.Sink sink.old sink.new) result.0 }
+        (SourceFailed S.Source source.old source.new)
+        (SinkFailed K.Sink sink.old sink.new) result.0 }
     ensures disk { result.1 ≡ disk }
 {
     let _ = pause;

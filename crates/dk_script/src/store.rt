@@ -2,16 +2,16 @@
 ghost use Rattle.std.specs.Prelude.{◌≡◌, ◌+◌, ◌^◌, ◌<◌, ◌≤◌, ◌++◌, [], map, length, slice_get, unwrap_or, Some, IfOk, OnOk, OnErr};
 ghost use Rattle.std.specs.Option.{option_copied};
 ghost use Rattle.dk_si.specs.Database.{present};
-ghost use Rattle.dk_si.specs.Meaning.{columns_of, is_whole};
+ghost use Rattle.dk_si.specs.Meaning.{columns_of};
 ghost use Rattle.dk_script.specs.Database.{rows_at};
 ghost use Rattle.dk_script.specs.FittingRows.{fitting_row, fitting_rows};
 
 use dk_si::MAX_TABLES;
-use dk_si::meaning::{creation_refusal, is_fitting};
+use dk_si::meaning::{creation_refusal, is_fitting, is_whole};
 use dk_si::names::{Named, place_of};
 use dk_types::{
-    Bytes, Column, ColumnSpots, Items, List, OutOfMemory, Query, Receipt, Refusal, Row, Rows,
-    Schema, Spot, Statement, Tuple, Tuples, literals,
+    Bytes, Column, ColumnSpots, List, OutOfMemory, Query, Receipt, Refusal, Row, Rows, Schema,
+    Spot, Statement, Tuple, Tuples, literals,
 };
 use std::alloc::Global;
 use std::marker::Model;
@@ -50,7 +50,11 @@ impl Model for StoredTable {
 
     ghost Value = { Table };
 
-    ghost view = { λ table. record { name = table.name; schema = table.schema; rows = map Some table.rows } };
+    ghost view = { λ table. record {
+      name = table.name;
+      schema = table.schema;
+      rows = map Some table.rows;
+    } };
 }
 
 impl Named for StoredTable {
@@ -79,7 +83,8 @@ impl StoredTable {
     /// Adds rows at the end.
     #[tactic(auto, using(crate::proofs::StoredRowLemmas::rows_appended))]
     fn append(&mut self, rows: Rows) -> Result<(), OutOfMemory>
-        ensures ok { OnOk result (self.new ≡ record self.old { rows = self.old.rows ++ map Some rows }) }
+        ensures ok { OnOk result (
+            self.new ≡ record self.old { rows = self.old.rows ++ map Some rows }) }
         ensures err { OnErr result (self.new ≡ self.old) }
     {
         self.rows.append(rows)
@@ -108,7 +113,7 @@ impl Model for Store {
 }
 
 impl Store {
-    ghost use Rattle.dk_script.specs.Meaning.{step, added, reply_of};
+    ghost use Rattle.dk_script.specs.Meaning.{step, rows_outcome, reply_of};
 
     /// No tables, and no commit so far.
     pub fn new(alloc: Global) -> Store
@@ -123,7 +128,8 @@ impl Store {
     /// Carries out a statement in a transaction of its own.
     pub fn execute(&mut self, alloc: Global, statement: Statement) -> Result<Answer, OutOfMemory>
         requires { self.old.commits + 1 < 2 ^ 64 }
-        ensures step { IfOk result (λ answer. step self.old statement ≡ (reply_of self.new answer, self.new)) }
+        ensures step { IfOk result (λ answer.
+            step self.old statement ≡ (reply_of self.new answer, self.new)) }
         ensures commits { OnOk result (self.new.commits ≤ self.old.commits + 1) }
         ensures err { OnErr result (self.new ≡ self.old) }
     {
@@ -212,7 +218,8 @@ impl Store {
     fn add(&mut self, place: usize, rows: Rows) -> Result<Answer, OutOfMemory>
         requires room { self.old.commits + 1 < 2 ^ 64 }
         requires within { place < length self.old.tables }
-        ensures step { IfOk result (λ answer. added self.old place rows ≡ (reply_of self.new answer, self.new)) }
+        ensures step { IfOk result (λ answer.
+            rows_outcome self.old place rows ≡ (reply_of self.new answer, self.new)) }
         ensures commits { OnOk result (self.new.commits ≤ self.old.commits + 1) }
         ensures err { OnErr result (self.new ≡ self.old) }
     {
@@ -232,7 +239,8 @@ impl Store {
 
     #[tactic(auto, using(crate::proofs::StoredRowLemmas::select_not_whole))]
     fn select(&self, query: &Query) -> Answer
-        ensures { step self.now (Statement.Select query.now) ≡ (reply_of self.now result, self.now) }
+        ensures { step self.now (Statement.Select query.now)
+            ≡ (reply_of self.now result, self.now) }
     {
         if !is_whole(query) {
             return UNSUPPORTED;
@@ -258,17 +266,6 @@ fn columns_of(alloc: Global, spots: ColumnSpots) -> Result<Vec<Column>, OutOfMem
     Ok(columns)
 }
 
-/// Whether a query is of all columns and all rows.
-fn is_whole(query: &Query) -> bool
-    ensures { result ≡ is_whole query.now }
-{
-    matches!(query.items, Items::All { .. })
-        && query.filter.is_none()
-        && query.groups.is_empty()
-        && query.keys.is_empty()
-        && query.limit.is_none()
-}
-
 /// The row that a tuple writes, if it fits.
 fn fitting_row(alloc: Global, schema: &[Column], tuple: &Tuple) -> Result<Option<Row>, OutOfMemory>
     ensures { IfOk result (λ row. row ≡ fitting_row schema.now tuple.now) }
@@ -280,7 +277,7 @@ fn fitting_row(alloc: Global, schema: &[Column], tuple: &Tuple) -> Result<Option
 }
 
 /// The rows that tuples write, if all of them fit.
-#[tactic(auto, using(crate::proofs::StoredRowLemmas::fits_start, crate::proofs::StoredRowLemmas::fits_more, crate::proofs::StoredRowLemmas::fits_no_more, crate::proofs::StoredRowLemmas::fits_end))]
+#[tactic(auto, using(crate::proofs::StoredRowLemmas::fitting_steps))]
 fn fitting_rows(
     alloc: Global,
     schema: &[Column],

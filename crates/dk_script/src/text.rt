@@ -89,14 +89,16 @@ fn put_damage(out: &mut Vec<u8>, damage: Damage) -> Result<(), OutOfMemory>
 
 /// Puts words, a number, and a second number behind a blank at the end.
 fn put_pair(out: &mut Vec<u8>, words: &[u8], first: u64, second: u64) -> Result<(), OutOfMemory>
-    ensures ok { OnOk result (out.new.items ≡ out.old.items ++ (words.now ++ decimal first ++ codes " " ++ decimal second)) }
+    ensures ok { OnOk result (out.new.items ≡ out.old.items ++
+        (words.now ++ decimal first ++ codes " " ++ decimal second)) }
 {
     put_counted(out, words, first)?;
     put_counted(out, b" ", second)
 }
 
 fn put_conflict(out: &mut Vec<u8>, name: &[u8], row: u64, by: Holder) -> Result<(), OutOfMemory>
-    ensures ok { OnOk result (out.new.items ≡ out.old.items ++ (codes "conflict " ++ name.now ++ codes " " ++ decimal row ++ holder_text by)) }
+    ensures ok { OnOk result (out.new.items ≡ out.old.items ++
+        (codes "conflict " ++ name.now ++ codes " " ++ decimal row ++ holder_text by)) }
 {
     put(out, b"conflict ")?;
     put(out, name)?;

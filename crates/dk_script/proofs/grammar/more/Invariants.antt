@@ -7,7 +7,8 @@ use Rattle.dk_script.proofs.grammar.more.Given as goal
 
 abbrev pub invariant-members : goal.invariant-members
 invariant-members g l = record {
-  reads : Goes (g.M.Member.found l.fn.whole) l.members l.rest (with_front l.fn.members (more_at (g.M.Member.found l.fn.whole) (length l.fn.text) l.fn.text));
+  reads : Goes (g.M.Member.found l.fn.whole) l.members l.rest
+      (with_front l.fn.members (more_at (g.M.Member.found l.fn.whole) (length l.fn.text) l.fn.text));
   within : length l.rest ≤ length l.fn.text;
 }
 

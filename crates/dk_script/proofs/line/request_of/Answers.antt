@@ -6,4 +6,5 @@ pub returns-clause-found : goal.returns-clause-found
 returns-clause-found c = found_request c.read_request.result c.args.line.now c.read_request.ensures.exact
 
 pub returns-clause-only : goal.returns-clause-only
-returns-clause-only c session text is = only_request c.read_request.result c.args.line.now session text c.read_request.ensures.exact is
+returns-clause-only c session text is =
+    only_request c.read_request.result c.args.line.now session text c.read_request.ensures.exact is

@@ -8,7 +8,8 @@ use Rattle.dk_script.proofs.plain.lines_of.Goals as goal
 
 pub returns-clause-found : goal.returns-clause-found
 returns-clause-found c =
-    IfOk-weaker c.read_lines.result (λ read. read.items ≡ line_contents c.args.script.now) (λ read. AreLines c.args.script.now read.items)
+    IfOk-weaker c.read_lines.result (λ read. read.items ≡ line_contents c.args.script.now)
+    (λ read. AreLines c.args.script.now read.items)
     (λ read e. subst (AreLines c.args.script.now) (sym e) (lines_found c.args.script.now)) c.read_lines.ensures
 
 pub returns-clause-only : goal.returns-clause-only

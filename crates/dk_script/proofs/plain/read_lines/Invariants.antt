@@ -4,4 +4,5 @@ use Rattle.dk_io.specs.Lines.{contents_after, line_contents}
 use Rattle.dk_script.proofs.plain.read_lines.Given as goal
 
 abbrev pub invariant-loop-byte : goal.invariant-loop-byte
-invariant-loop-byte l = l.lines.items ++ contents_after l.begun.items (drop l.byte-index l.script) ≡ line_contents l.script
+invariant-loop-byte l = l.lines.items ++ contents_after l.begun.items (drop l.byte-index l.script) ≡ line_contents
+    l.script

@@ -7,8 +7,10 @@ use Rattle.dk_script.proofs.run.answer_line.Goals as goal
 
 pub returns-in-Ok-clause-stop : goal.returns-in-Ok-clause-stop
 returns-in-Ok-clause-stop g c =
-    write_stops c.write_reply.result c.args.run.now.reader c.args.run.now.store (g.K.Sink.taken c.args.sink.now) (g.K.Sink.taken c.write_reply.new.sink) c.write_reply.ensures.stop
+    write_stops c.write_reply.result c.args.run.now.reader c.args.run.now.store (g.K.Sink.taken c.args.sink.now)
+    (g.K.Sink.taken c.write_reply.new.sink) c.write_reply.ensures.stop
     (on_err_weaker c.write_reply.result
-    (λ f. front_line c.args.run.now.store c.reply.new.store (g.K.Sink.taken c.args.sink.now) (g.K.Sink.taken c.write_reply.new.sink) c.args.run.now.reader.line c.in-Some.session c.in-Some.text.now _
+    (λ f. front_line c.args.run.now.store c.reply.new.store (g.K.Sink.taken c.args.sink.now)
+    (g.K.Sink.taken c.write_reply.new.sink) c.args.run.now.reader.line c.in-Some.session c.in-Some.text.now _
     c.requires.short (sym (c.in-Some.ensures.exact ∙ ap request_of c.line.ensures)) c.in-Ok.ensures.answer f)
     c.write_reply.ensures.err)

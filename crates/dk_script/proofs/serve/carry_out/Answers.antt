@@ -10,8 +10,11 @@ true_false : true ≡ false → ⊥
 true_false e = cc
 
 pub returns-then-is_run-clause-usage : goal.returns-then-is_run-clause-usage
-returns-then-is_run-clause-usage g c =
-    (λ e. absurd (no_usage _ _ _ c.run_script.ensures.cause e), λ wrong. absurd (true_false (sym c.if-is_run.true ∙ (c.is_run.ensures ∙ wrong))))
+returns-then-is_run-clause-usage g c = (
+  λ e. absurd (no_usage _ _ _ c.run_script.ensures.cause e),
+  λ wrong. absurd
+      (true_false (sym c.if-is_run.true ∙ (c.is_run.ensures ∙ wrong))),
+)
 
 pub returns-then-is_run-clause-untouched : goal.returns-then-is_run-clause-untouched
 returns-then-is_run-clause-untouched g c e = absurd (no_usage _ _ _ c.run_script.ensures.cause e)
@@ -19,4 +22,5 @@ returns-then-is_run-clause-untouched g c e = absurd (no_usage _ _ _ c.run_script
 pub returns-then-is_run-clause-cause : goal.returns-then-is_run-clause-cause
 returns-then-is_run-clause-cause g c =
     same_cause c.run_script.result (is_run (map string_bytes c.args.words.now) ≡ false)
-    (SourceFailed g.S.Source c.args.source.now c.run_script.new.source) (SinkFailed g.K.Sink c.args.sink.now c.run_script.new.sink) c.run_script.ensures.cause
+    (SourceFailed g.S.Source c.args.source.now c.run_script.new.source)
+    (SinkFailed g.K.Sink c.args.sink.now c.run_script.new.sink) c.run_script.ensures.cause

@@ -5,4 +5,5 @@ use Rattle.dk_script.proofs.StoredRowLemmas.{rows_behind}
 use Rattle.dk_script.proofs.store.fitting_rows.Given as goal
 
 abbrev pub invariant-tuples : goal.invariant-tuples
-invariant-tuples l = rows_behind l.rows (fitting_rows l.schema (drop l.tuple-index l.tuples)) ≡ fitting_rows l.schema l.tuples
+invariant-tuples l = rows_behind l.rows (fitting_rows l.schema (drop l.tuple-index l.tuples)) ≡ fitting_rows l.schema
+    l.tuples

@@ -5,4 +5,5 @@ use Rattle.dk_script.proofs.words.value_of.Goals as goal
 
 pub returns-then-value-digit : goal.returns-then-value-digit
 returns-then-value-digit c =
-    value_over_at c.args.digits.now c.digits.value c.digits.d-index c.digits-test.true (omega (arith, c.from-digit.ensures, c.saturating_sub.ensures)) c.digits.invariant
+    value_over_at c.args.digits.now c.digits.value c.digits.d-index c.digits-test.true
+    (omega (arith, c.from-digit.ensures, c.saturating_sub.ensures)) c.digits.invariant
