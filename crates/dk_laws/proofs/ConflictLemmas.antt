@@ -22,11 +22,13 @@ use Rattle.dk_si.specs.declared.history.Entry.{Entry}
 use Rattle.dk_si.specs.declared.history.Entry.TheVariants as history
 use Rattle.dk_si.specs.declared.kind.Kind.{Kind}
 use Rattle.dk_si.specs.declared.kind.Kind.TheVariants as form
+use Rattle.dk_si.specs.declared.machine.LastTransaction.{LastTransaction}
 use Rattle.dk_si.specs.declared.machine.Machine.{Machine}
 use Rattle.dk_si.specs.declared.machine.OpenTransaction.{OpenTransaction}
 use Rattle.dk_si.specs.declared.machine.Session.{Session}
 use Rattle.dk_si.specs.declared.machine.Transaction.{Transaction}
 use Rattle.dk_si.specs.declared.machine.Transaction.TheVariants as state
+use Rattle.dk_si.specs.declared.machine.WriteSet.{WriteSet}
 use Rattle.dk_si.specs.declared.meaning.Meaning.{Meaning}
 use Rattle.dk_si.specs.declared.meaning.Meaning.TheVariants as meant
 use Rattle.dk_laws.specs.ConflictLaws.{CommitHolds, HasHolder, HasCause, ConflictsHaveCauses}
@@ -35,18 +37,17 @@ use Rattle.dk_si.specs.HeldRows.{commit_has, some_commit_has, writes_row, sessio
 use Rattle.dk_si.specs.HeldRows.{holds_against, commit_holds, holds}
 use Rattle.dk_si.specs.IsStep.{are_steps, is_step, start_of, may_begin, may_reply, if_there}
 use Rattle.dk_si.specs.Laws.{state_after}
-use Rattle.dk_si.specs.Machine.{first_state, others, session_at, session_behind, with_session, kind_of, asks_for}
-use Rattle.dk_si.specs.Machine.{begins_one, is_outside, meaning_in, write_set, write_set_in_flight, transition}
-use Rattle.dk_si.specs.Machine.{after_aborted, after_open_reply, after_reply, next}
+use Rattle.dk_si.specs.Machine.{first_state, others, session_at, kind_of, asks_for, begins_one, is_outside, meaning_in}
+use Rattle.dk_si.specs.Machine.{write_set, write_set_in_flight, after_reply, next}
 use Rattle.dk_si.specs.MayAnswer.{is_meant_refusal, is_refused_from, commit_answers, outside_answers, aborted_answers}
 use Rattle.dk_si.specs.MayAnswer.{open_answers, may_answer}
 use Rattle.dk_si.specs.Meaning.{meaning, is_same_refusal}
 use Rattle.dk_laws.specs.SessionLaws.{session_in}
 use Rattle.dk_si.specs.StatesSince.{is_call_of, states_from, states_since, was_since_call}
-use Rattle.dk_si.proofs.FreshLemmas.{is_asked}
 use Rattle.dk_si.proofs.GrowthLemmas.{Grown, entry_grows}
 use Rattle.dk_si.proofs.HolderLemmas.{not_both}
 use Rattle.dk_si.proofs.PlaceLemmas.{last_place, set_place, found_at}
+use Rattle.dk_si.proofs.TransitionLemmas.{session_of}
 use Rattle.dk_laws.proofs.SessionLemmas.{other_leaves}
 
 -- an item of a list that passes a test, and its place
@@ -227,22 +228,16 @@ set_here : {T : Type 0} → (xs : List T) (n : ℕ) (new found : T) → slice_ge
 set_here xs n new found at = ⊎_elim (λ h. h.1) (λ h. absurd (h.0 refl)) (set_place xs n new n found at)
 
 -- after a reply no call is in flight
-asked_after : (opened : List Table) (machine : Machine) (number : ℕ) (before found : Session) (reply : Reply)
-    → (transaction : Transaction)
-    → slice_get (elim transaction as (λ x. Machine) [
-      | state.Outside ↦ with_session machine number (session_behind state.Outside None None)
-      | state.Aborted ↦ with_session machine number (session_behind (after_aborted reply) None None)
-      | state.Open active ↦ after_open_reply opened machine number before active
-          (transition opened machine.commits active before.asked reply)
-    ]).sessions (number - 1) ≡ Some found → is_none found.asked ≡ true
-asked_after opened machine number before found reply state.Outside at =
-    subst (λ (now : Session). is_none now.asked ≡ true)
-    (set_here machine.sessions (number - 1) (session_behind state.Outside None None) found at) refl
-asked_after opened machine number before found reply state.Aborted at =
-    subst (λ (now : Session). is_none now.asked ≡ true)
-    (set_here machine.sessions (number - 1) (session_behind (after_aborted reply) None None) found at) refl
-asked_after opened machine number before found reply (state.Open active) at =
-    subst (λ (now : Session). is_none now.asked ≡ true) (set_here machine.sessions (number - 1) _ found at) refl
+asked_after : (opened : List Table) (machine : Machine) (number : ℕ) (reply : Reply) (found : Session)
+    → (transaction : Transaction) (asked : Option Asked) (writes : Option WriteSet) (last : Option LastTransaction)
+    → slice_get (after_reply opened machine number (session_of transaction asked writes last) reply).sessions
+    (number - 1) ≡ Some found → is_none found.asked ≡ true
+asked_after opened machine number reply found state.Outside asked writes last at =
+    ap (λ (now : Session). is_none now.asked) (sym (set_here machine.sessions (number - 1) _ found at))
+asked_after opened machine number reply found state.Aborted asked writes last at =
+    ap (λ (now : Session). is_none now.asked) (sym (set_here machine.sessions (number - 1) _ found at))
+asked_after opened machine number reply found (state.Open active) asked writes last at =
+    ap (λ (now : Session). is_none now.asked) (sym (set_here machine.sessions (number - 1) _ found at))
 
 own_reply : (opened : List Table) (machine : Machine) (number : ℕ) (reply : Reply) (before : Option Session)
     → (found : Session)
@@ -253,7 +248,7 @@ own_reply : (opened : List Table) (machine : Machine) (number : ℕ) (reply : Re
     ]).sessions number ≡ Some found → is_none found.asked ≡ true
 own_reply opened machine number reply None found is at = cc
 own_reply opened machine number reply (Some before) found is at =
-    asked_after opened machine number before found reply before.transaction
+    asked_after opened machine number reply found before.transaction before.asked before.writes before.last
     (found_at (after_reply opened machine number before reply).sessions number found at).0
 
 reply_follows : (opened : List Table) (number : ℕ) (past machine : Machine) (reply : Reply)
@@ -267,6 +262,11 @@ reply_follows opened number past machine reply follows = record {
       (session_at machine.sessions number) session refl is) asked);
 }
 
+-- what asks for a transaction is a call
+asks_some : (asked : Option Asked) → asks_for begins_one asked ≡ true → is_none asked ≡ false
+asks_some None e = absurd (false≢true e)
+asks_some (Some asked) e = refl
+
 -- a session whose transaction begins had none
 had_none : (machine : Machine) (number transaction start : ℕ) (past : Machine) (found : Option Session)
     → (old : Session) (active : OpenTransaction)
@@ -276,7 +276,7 @@ had_none : (machine : Machine) (number transaction start : ℕ) (past : Machine)
 had_none machine number transaction start past None old active follows is may was opens = false≢true may
 had_none machine number transaction start past (Some before) old active follows is may was opens =
     let h = and_parts (asks_for begins_one before.asked) (is_outside before.transaction) (and_parts _ _ may).0 in
-    false≢true (ap is_outside (sym (follows.stays old before active was opens is (is_asked before.asked h.0))) ∙ h.1)
+    false≢true (ap is_outside (sym (follows.stays old before active was opens is (asks_some before.asked h.0))) ∙ h.1)
 
 begun_follows : (opened : List Table) (number transaction start : ℕ) (past machine : Machine)
     → if_there (may_begin machine transaction start) (session_at machine.sessions number) ≡ true

@@ -25,14 +25,15 @@ use Rattle.dk_si.specs.Size.{has_full_group, is_too_large}
 use Rattle.dk_si.specs.Weight.{cap, weight}
 
 -- a meaning that is a refusal is the same as itself
-abbrev MayBeReplied : Meaning → Type 0
+abbrev pub MayBeReplied : Meaning → Type 0
 MayBeReplied (Refused refusal) = is_same_refusal refusal refusal ≡ true
 MayBeReplied (Rows rows) = Unit {0}
 MayBeReplied (Change count part) = Unit {0}
 MayBeReplied (Create name schema) = Unit {0}
 MayBeReplied Nothing = Unit {0}
 
-abbrev Suits : Kind → Meaning → Type 0
+-- a statement of that kind may mean it, and it may be replied
+abbrev pub Suits : Kind → Meaning → Type 0
 Suits kind meant = (suits kind meant ≡ true) × MayBeReplied meant
 
 meant_if : (kind : Kind) (holds : Bool) (meant : Meaning) → Suits kind meant → Suits kind unbuilt
@@ -70,7 +71,7 @@ create_suits true name columns =
     meant_if form.Create (is_none (schema_fault columns)) (Create name columns) (refl, tt) (refl, refl)
 create_suits false name columns = (refl, refl)
 
-meaning_suits : (tables : List Table) (statement : Statement) → Suits (kind_of statement) (meaning tables statement)
+pub meaning_suits : (tables : List Table) (statement : Statement) → Suits (kind_of statement) (meaning tables statement)
 meaning_suits tables (ask.Create spot columns) =
     create_suits
     (is_none (place_of (λ (table : Table). table.name) spot.name tables)

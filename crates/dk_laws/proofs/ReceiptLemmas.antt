@@ -2,7 +2,7 @@
 use Rattle.std.proofs.Common.{◌≡◌, ⊎_elim, ℕ, suc, ◌+◌, Bool, true, false, List, [], ◌∷◌, ◌++◌, length, map, Option}
 use Rattle.std.proofs.Common.{Some, None, option_to_list, ap, ◌∙◌, sym, refl, subst, arith, append-nil, append_assoc}
 use Rattle.std.proofs.Common.{length-append}
-use Rattle.std.specs.Prelude.{not, if◌then◌else◌}
+use Rattle.std.specs.Prelude.{◌||◌, not, if◌then◌else◌}
 use Rattle.std.proofs.lemmas.Bool.{false≢true, and_parts, or_cases, eqb-true}
 use Rattle.dk_types.specs.declared.net.Commit.{Commit}
 use Rattle.dk_types.specs.declared.net.TableNet.{TableNet}
@@ -37,7 +37,7 @@ use Rattle.dk_si.specs.MayAnswer.{is_creation}
 use Rattle.dk_si.specs.Nets.{is_empty}
 use Rattle.dk_laws.specs.ReceiptLaws.{receipt_of, entry_receipts, receipts, numbers_to, ReceiptsCountCommits}
 use Rattle.dk_si.specs.Meaning.{is_text_refusal}
-use Rattle.dk_si.specs.ReplyTests.{is_refused, is_no_memory}
+use Rattle.dk_si.specs.ReplyTests.{is_refused, is_no_memory, is_ended, is_committed, is_stopped, is_fault}
 use Rattle.dk_si.proofs.TransitionLemmas.{session_of}
 
 -- a reply has a receipt exactly where it is a commit, and then the next number behind so many commits
@@ -93,6 +93,14 @@ first_of : (fresh test : Bool) → (if fresh then test else false) ≡ true → 
 first_of true test e = e
 first_of false test e = absurd (false≢true e)
 
+-- a COMMIT is answered no receipt of another kind
+commit_never : (commits : List Commit) (net : List TableNet) (reply : Reply) → is_ended reply ≡ false
+    → (is_committed commits reply || is_refused (λ refusal. is_stopped commits refusal || is_fault refusal) reply)
+    ≡ false
+    → commit_answers commits net reply ≡ true → ⊥
+commit_never commits [] reply ended committed e = false≢true (sym ended ∙ e)
+commit_never commits (part ∷ net) reply ended committed e = false≢true (sym committed ∙ e)
+
 -- a creation is answered to a CREATE TABLE that means one
 created : (opened : List Table) (commits : List Commit) (active : OpenTransaction) (statement : Statement)
     → (receipt : Receipt) (kind : Kind)
@@ -103,11 +111,8 @@ created opened commits active statement receipt form.Create e =
     created_numbered (length commits) (meaning_now opened commits (Some (Good statement))) receipt h.0
     (eqb-true receipt.number (length commits + 1) h.1)
 created opened commits active statement receipt form.Begin e = absurd (false≢true (first_of active.fresh false e))
-created opened commits active statement receipt form.Commit e = absurd (not_created active.net e)
-  where
-    not_created : (net : List TableNet) → commit_answers commits net (told.Created receipt) ≡ true → ⊥
-    not_created [] e = false≢true e
-    not_created (part ∷ net) e = false≢true e
+created opened commits active statement receipt form.Commit e =
+    absurd (commit_never commits active.net (told.Created receipt) refl refl e)
 created opened commits active statement receipt form.Rollback e = absurd (false≢true e)
 created opened commits active statement receipt form.Checkpoint e = absurd (false≢true e)
 created opened commits active statement receipt form.Select e = absurd (false≢true e)
@@ -145,11 +150,8 @@ changed opened commits active statement count receipt form.Change e =
 changed opened commits active statement count receipt form.Create e =
     absurd (false≢true (first_of active.fresh false e))
 changed opened commits active statement count receipt form.Begin e = absurd (false≢true (first_of active.fresh false e))
-changed opened commits active statement count receipt form.Commit e = absurd (not_changed active.net e)
-  where
-    not_changed : (net : List TableNet) → commit_answers commits net (told.Changed count (Some receipt)) ≡ true → ⊥
-    not_changed [] e = false≢true e
-    not_changed (part ∷ net) e = false≢true e
+changed opened commits active statement count receipt form.Commit e =
+    absurd (commit_never commits active.net (told.Changed count (Some receipt)) refl refl e)
 changed opened commits active statement count receipt form.Rollback e = absurd (false≢true e)
 changed opened commits active statement count receipt form.Checkpoint e = absurd (false≢true e)
 changed opened commits active statement count receipt form.Select e = absurd (false≢true e)
@@ -253,20 +255,14 @@ reply_counts opened before machine number reply (state.Open active) (Some asked)
     (receipt_of reply)
     (open_counted opened machine.commits active asked reply (and_parts _ _ may).0)
 
-call_counts : (machine : Machine) (number : ℕ) (asked : Asked) (found : Option Session)
+-- an entry that commits nothing
+none_more : (machine : Machine) (behind : Session → Machine)
+    → ((before : Session) → machine.commits ≡ (behind before).commits) → (found : Option Session)
     → Counts machine.commits
-    (elim found as (λ x. Machine) [ None ↦ machine | Some before ↦ after_call machine number asked before ]).commits []
-call_counts machine number asked None = none_counts machine.commits
-call_counts machine number asked (Some before) = none_counts machine.commits
-
-begin_counts : (machine : Machine) (session number start : ℕ) (found : Option Session)
-    → Counts machine.commits
-    (elim found as (λ x. Machine) [
-      | None ↦ machine
-      | Some before ↦ after_begin machine session number start before
-    ]).commits []
-begin_counts machine session number start None = none_counts machine.commits
-begin_counts machine session number start (Some before) = none_counts machine.commits
+    (elim found as (λ x. Machine) [ None ↦ machine | Some before ↦ behind before ]).commits []
+none_more machine behind same None = none_counts machine.commits
+none_more machine behind same (Some before) =
+    subst (λ now. Counts machine.commits now []) (same before) (none_counts machine.commits)
 
 found_counts : (opened : List Table) (before : List Entry) (machine : Machine) (number : ℕ) (reply : Reply)
     → (found : Option Session)
@@ -285,9 +281,11 @@ step_counts : (opened : List Table) (before : List Entry) (machine : Machine) (e
     → is_step opened before machine entry ≡ true
     → Counts machine.commits (next opened machine entry).commits (entry_receipts entry)
 step_counts opened before machine (history.Call session asked) step =
-    call_counts machine session asked (session_at machine.sessions session)
+    none_more machine (λ before. after_call machine session asked before) (λ before. refl)
+    (session_at machine.sessions session)
 step_counts opened before machine (history.Begun session number start) step =
-    begin_counts machine session number start (session_at machine.sessions session)
+    none_more machine (λ before. after_begin machine session number start before) (λ before. refl)
+    (session_at machine.sessions session)
 step_counts opened before machine (history.Reply session reply) step =
     found_counts opened before machine session reply (session_at machine.sessions session) step
 

@@ -9,41 +9,40 @@ use Rattle.dk_si.specs.declared.history.Asked.{Asked}
 use Rattle.dk_si.specs.declared.history.Asked.TheVariants.{Unread, Bad, Good}
 use Rattle.dk_si.specs.declared.history.Entry.{Entry}
 use Rattle.dk_si.specs.declared.history.Entry.TheVariants as history
+use Rattle.dk_si.specs.declared.machine.LastTransaction.{LastTransaction}
 use Rattle.dk_si.specs.declared.machine.Transaction.{Transaction}
 use Rattle.dk_si.specs.declared.machine.Transaction.TheVariants as state
 use Rattle.dk_si.specs.declared.machine.Session.{Session}
+use Rattle.dk_si.specs.declared.machine.WriteSet.{WriteSet}
 use Rattle.dk_si.specs.declared.machine.Machine.{Machine}
 use Rattle.dk_si.specs.Database.{apply_net}
 use Rattle.dk_si.specs.IsStep.{start_of}
 use Rattle.dk_si.specs.Laws.{state_after}
-use Rattle.dk_si.specs.Machine.{first_state, session_at, session_behind, after_aborted, with_session, after_call}
-use Rattle.dk_si.specs.Machine.{after_begin, transition, after_open_reply, after_reply, next}
+use Rattle.dk_si.specs.Machine.{first_state, session_at, after_call, after_begin, after_reply, next}
 use Rattle.dk_si.specs.Meaning.{meaning}
 use Rattle.dk_laws.specs.SessionLaws.{session_in, are_of_others, OthersLeaveASession, OthersLeaveAMeaning}
 use Rattle.dk_si.proofs.FirstCommitterLemmas.{fair}
 use Rattle.dk_si.proofs.GrowthLemmas.{after_both, commits_stay}
 use Rattle.dk_si.proofs.PlaceLemmas.{found_at, set_apart}
+use Rattle.dk_si.proofs.TransitionLemmas.{session_of}
 
 -- only the session at that place may be another one
 pub record OneSet (before after : List Session) (place : ℕ) : Type 0 where
   pub new : Session
   pub is : after ≡ slice_set before place new
 
-transaction_sets : (opened : List Table) (machine : Machine) (number : ℕ) (before : Session) (reply : Reply)
-    → (transaction : Transaction)
-    → OneSet machine.sessions (elim transaction as (λ x. Machine) [
-      | state.Outside ↦ with_session machine number (session_behind state.Outside None None)
-      | state.Aborted ↦ with_session machine number (session_behind (after_aborted reply) None None)
-      | state.Open active ↦ after_open_reply opened machine number before active
-          (transition opened machine.commits active before.asked reply)
-    ]).sessions (number - 1)
-transaction_sets opened machine number before reply state.Outside = record { new = _; is = refl }
-transaction_sets opened machine number before reply state.Aborted = record { new = _; is = refl }
-transaction_sets opened machine number before reply (state.Open active) = record { new = _; is = refl }
+fields_set : (opened : List Table) (machine : Machine) (number : ℕ) (reply : Reply) (transaction : Transaction)
+    → (asked : Option Asked) (writes : Option WriteSet) (last : Option LastTransaction)
+    → OneSet machine.sessions
+    (after_reply opened machine number (session_of transaction asked writes last) reply).sessions (number - 1)
+fields_set opened machine number reply state.Outside asked writes last = record { new = _; is = refl }
+fields_set opened machine number reply state.Aborted asked writes last = record { new = _; is = refl }
+fields_set opened machine number reply (state.Open active) asked writes last = record { new = _; is = refl }
 
 pub reply_sets : (opened : List Table) (machine : Machine) (number : ℕ) (before : Session) (reply : Reply)
     → OneSet machine.sessions (after_reply opened machine number before reply).sessions (number - 1)
-reply_sets opened machine number before reply = transaction_sets opened machine number before reply before.transaction
+reply_sets opened machine number before reply =
+    fields_set opened machine number reply before.transaction before.asked before.writes before.last
 
 apart_if : (first : Bool) (sessions : List Session) (session number : ℕ) (new : Session) → (number == 0) ≡ first
     → 0 < session
@@ -61,50 +60,30 @@ session_apart before after session number one above apart =
     ap (λ sessions. session_at sessions number) one.is
     ∙ apart_if (number == 0) before session number one.new refl above apart
 
-call_leaves : (machine : Machine) (session number : ℕ) (asked : Asked) (found : Option Session)
-    → session_at machine.sessions session ≡ found → (session == number) ≡ false
-    → session_at (elim found as (λ x. Machine) [
-      | None ↦ machine
-      | Some before ↦ after_call machine session asked before
-    ]).sessions number
+-- what an entry makes of its session leaves the others
+found_leaves : (machine : Machine) (session number : ℕ) (behind : Session → Machine)
+    → ((before : Session) → OneSet machine.sessions (behind before).sessions (session - 1))
+    → (found : Option Session) → session_at machine.sessions session ≡ found → (session == number) ≡ false
+    → session_at (elim found as (λ x. Machine) [ None ↦ machine | Some before ↦ behind before ]).sessions number
     ≡ session_at machine.sessions number
-call_leaves machine session number asked None is apart = refl
-call_leaves machine session number asked (Some before) is apart =
-    session_apart machine.sessions (after_call machine session asked before).sessions session number
-    (record { new = _; is = refl }) (found_at machine.sessions session before is).1 apart
-
-begin_leaves : (machine : Machine) (session number transaction start : ℕ) (found : Option Session)
-    → session_at machine.sessions session ≡ found → (session == number) ≡ false
-    → session_at (elim found as (λ x. Machine) [
-      | None ↦ machine
-      | Some before ↦ after_begin machine session transaction start before
-    ]).sessions number ≡ session_at machine.sessions number
-begin_leaves machine session number transaction start None is apart = refl
-begin_leaves machine session number transaction start (Some before) is apart =
-    session_apart machine.sessions (after_begin machine session transaction start before).sessions session number
-    (record { new = _; is = refl }) (found_at machine.sessions session before is).1 apart
-
-reply_leaves : (opened : List Table) (machine : Machine) (session number : ℕ) (reply : Reply) (found : Option Session)
-    → session_at machine.sessions session ≡ found → (session == number) ≡ false
-    → session_at (elim found as (λ x. Machine) [
-      | None ↦ machine
-      | Some before ↦ after_reply opened machine session before reply
-    ]).sessions number ≡ session_at machine.sessions number
-reply_leaves opened machine session number reply None is apart = refl
-reply_leaves opened machine session number reply (Some before) is apart =
-    session_apart machine.sessions (after_reply opened machine session before reply).sessions session number
-    (reply_sets opened machine session before reply) (found_at machine.sessions session before is).1 apart
+found_leaves machine session number behind sets None is apart = refl
+found_leaves machine session number behind sets (Some before) is apart =
+    session_apart machine.sessions (behind before).sessions session number (sets before)
+    (found_at machine.sessions session before is).1 apart
 
 -- an entry of another session leaves a session as it was
 pub other_leaves : (opened : List Table) (machine : Machine) (entry : Entry) (number : ℕ)
     → (session_in entry == number) ≡ false
     → session_at (next opened machine entry).sessions number ≡ session_at machine.sessions number
 other_leaves opened machine (history.Call session asked) number apart =
-    call_leaves machine session number asked (session_at machine.sessions session) refl apart
+    found_leaves machine session number (λ before. after_call machine session asked before)
+    (λ before. record { new = _; is = refl }) (session_at machine.sessions session) refl apart
 other_leaves opened machine (history.Begun session transaction start) number apart =
-    begin_leaves machine session number transaction start (session_at machine.sessions session) refl apart
+    found_leaves machine session number (λ before. after_begin machine session transaction start before)
+    (λ before. record { new = _; is = refl }) (session_at machine.sessions session) refl apart
 other_leaves opened machine (history.Reply session reply) number apart =
-    reply_leaves opened machine session number reply (session_at machine.sessions session) refl apart
+    found_leaves machine session number (λ before. after_reply opened machine session before reply)
+    (λ before. reply_sets opened machine session before reply) (session_at machine.sessions session) refl apart
 
 others_leave : (opened : List Table) (machine : Machine) (entries : List Entry) (number : ℕ)
     → are_of_others number entries ≡ true

@@ -1,6 +1,6 @@
 -- Rows that fit their tables, and nets that fit a database.
-use Rattle.std.specs.Prelude.{ℕ, ◌^◌, Bool, true, false, ◌&&◌, ◌==◌, List, [], ◌∷◌, length, Some, None, nat_lt}
-use Rattle.std.specs.Prelude.{slice_get, ◌≡◌}
+use Rattle.std.specs.Prelude.{ℕ, ◌^◌, Bool, true, false, ◌&&◌, ◌==◌, List, [], length, Some}
+use Rattle.std.specs.Prelude.{None, nat_lt, slice_get, ◌≡◌}
 use Rattle.std.specs.List.{All, list_all, list_any}
 use Rattle.std.specs.Str.{is_utf8}
 use lib.Pointwise.{pointwise}
@@ -26,7 +26,8 @@ use Rattle.dk_si.specs.Nets.{has_id, is_empty, part_has, rises}
 use Rattle.dk_si.specs.RowLaws.{has_row}
 use Rattle.dk_laws.specs.SessionLaws.{IsOpen}
 
--- a column of that type may hold the value: NULL, or one of its own kind, a text of at most 65,535 bytes of UTF-8
+-- a column of that type may hold the value: NULL, or one of its own kind, a text of at most 65,535
+-- bytes of UTF-8
 abbrev pub holds_value : ColType → Value → Bool
 holds_value type value.Null = true
 holds_value type.Bool (value.Bool truth) = true
@@ -46,12 +47,13 @@ fits_table table = list_all (fits_row table.schema) (present table.rows)
 abbrev pub all_fit : List Table → Bool
 all_fit tables = list_all fits_table tables
 
--- what a net changes in a table fits it: updates and deletes ascend, share no row and are of rows that are there, and
--- updated and new rows fit the table
+-- what a net changes in a table fits it: updates and deletes ascend, share no row and are of rows
+-- that are there, and updated and new rows fit the table
 pub record FitsTable (table : Table) (part : TableNet) : Type 0 where
   pub updates_ascend : rises (λ update. update.0) part.updates ≡ true
   pub deletes_ascend : rises (λ id. id) part.deletes ≡ true
-  pub apart : (row : ℕ) → list_any (λ update. update.0 == row) part.updates ≡ true → has_id part.deletes row ≡ true → ⊥
+  pub apart : (row : ℕ) → list_any (λ update. update.0 == row) part.updates ≡ true
+      → has_id part.deletes row ≡ true → ⊥
   pub there : (row : ℕ) → part_has part row ≡ true → has_row table.rows row ≡ true
   pub updates_fit : list_all (λ update. fits_row table.schema update.1) part.updates ≡ true
   pub rows_fit : list_all (fits_row table.schema) part.rows ≡ true
@@ -67,11 +69,13 @@ pub record FitsNet (tables : List Table) (net : List TableNet) : Type 0 where
   pub is : IsNet net
   pub parts : All (FitsPart tables) net
 
--- a commit fits the database that it is applied to: a net that changes something, or a table that may be made there
+-- a commit fits the database that it is applied to: a net that changes something, or a table that
+-- may be made there
 abbrev pub FitsCommit : List Table → Commit → Type 0
 FitsCommit tables (Change net) = (is_empty net ≡ false) × FitsNet tables net
 FitsCommit tables (Create name schema) =
-    (creation_refusal (λ table. table.name) tables name schema ≡ None) × (schema_fault schema ≡ None)
+    (creation_refusal (λ table. table.name) tables name schema ≡ None)
+    × (schema_fault schema ≡ None)
 
 -- where the rows of the opened database fit, each row fits its table after each number of commits
 abbrev pub RowsFit : Type 0
@@ -90,4 +94,5 @@ CommitsFit = (opened : List Table) (entries : List Entry) (n : ℕ) (commit : Co
 abbrev pub NetsFit : Type 0
 NetsFit = (opened : List Table) (entries : List Entry) (number : ℕ) (active : OpenTransaction)
     → all_fit opened ≡ true → IsOpen opened entries number active
-    → FitsNet (after opened (state_after opened first_state entries).commits active.start) active.net
+    → FitsNet (after opened (state_after opened first_state entries).commits active.start)
+    active.net

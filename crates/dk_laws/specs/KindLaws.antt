@@ -25,7 +25,8 @@ abbrev pub is_nothing : Meaning → Bool
 is_nothing meant.Nothing = true
 is_nothing other = false
 
--- what statements of a kind may mean: rows, a change or a creation, each or a refusal, and all others nothing
+-- what statements of a kind may mean: rows, a change or a creation, each or a refusal, and all
+-- others nothing
 abbrev pub suits : Kind → Meaning → Bool
 suits kind.Select meaning = are_rows meaning || is_refusal meaning
 suits kind.Change meaning = is_any_change meaning || is_refusal meaning
@@ -35,7 +36,8 @@ suits other meaning = is_nothing meaning
 -- each statement means what its kind may mean
 abbrev pub MeaningsSuitKinds : Type 0
 MeaningsSuitKinds =
-    (tables : List Table) (statement : Statement) → suits (kind_of statement) (meaning tables statement) ≡ true
+    (tables : List Table) (statement : Statement)
+    → suits (kind_of statement) (meaning tables statement) ≡ true
 
 -- the refusal that a statement means may be replied: it is the same as itself
 abbrev pub RefusalsMayBeReplied : Type 0

@@ -1,6 +1,6 @@
 -- Receipts count the commits.
-use Rattle.std.specs.Prelude.{ℕ, zero, suc, List, [], ◌∷◌, ◌++◌, Option, Some, None, option_to_list, map, length, ◌≡◌}
-use Rattle.std.specs.Prelude.{true}
+use Rattle.std.specs.Prelude.{ℕ, zero, suc, List, [], ◌∷◌, ◌++◌, Option, Some, None, option_to_list}
+use Rattle.std.specs.Prelude.{map, length, ◌≡◌, true}
 use Rattle.dk_types.specs.declared.reply.Receipt.{Receipt}
 use Rattle.dk_types.specs.declared.reply.Reply.{Reply}
 use Rattle.dk_types.specs.declared.reply.Reply.TheVariants as reply
@@ -34,6 +34,7 @@ numbers_to (suc n) = numbers_to n ++ suc n ∷ []
 
 -- receipts are numbered 1, 2, 3 .., and there are as many as commits
 abbrev pub ReceiptsCountCommits : Type 0
-ReceiptsCountCommits = (opened : List Table) (entries : List Entry) → are_steps opened [] first_state entries ≡ true
+ReceiptsCountCommits =
+    (opened : List Table) (entries : List Entry) → are_steps opened [] first_state entries ≡ true
     → map (λ receipt. receipt.number) (receipts entries) ≡ numbers_to
     (length (state_after opened first_state entries).commits)

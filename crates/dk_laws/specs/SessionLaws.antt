@@ -23,12 +23,15 @@ are_of_others number entries = list_all (λ entry. not (session_in entry == numb
 
 -- entries of other sessions leave a session as it was
 abbrev pub OthersLeaveASession : Type 0
-OthersLeaveASession = (opened : List Table) (entries more : List Entry) (number : ℕ) → are_of_others number more ≡ true
+OthersLeaveASession =
+    (opened : List Table) (entries more : List Entry) (number : ℕ)
+    → are_of_others number more ≡ true
     → session_at (state_after opened first_state (entries ++ more)).sessions number
     ≡ session_at (state_after opened first_state entries).sessions number
 
 -- the transaction of the session is open behind these entries
-pub record IsOpen (opened : List Table) (entries : List Entry) (number : ℕ) (active : OpenTransaction) : Type 0 where
+pub record IsOpen (opened : List Table) (entries : List Entry) (number : ℕ)
+    (active : OpenTransaction) : Type 0 where
   pub steps : are_steps opened [] first_state entries ≡ true
   pub session : Session
   pub is : session_at (state_after opened first_state entries).sessions number ≡ Some session
@@ -37,7 +40,8 @@ pub record IsOpen (opened : List Table) (entries : List Entry) (number : ℕ) (a
 -- whatever comes behind them, a statement means the same in the open transaction
 abbrev pub OthersLeaveAMeaning : Type 0
 OthersLeaveAMeaning =
-    (opened : List Table) (entries more : List Entry) (number : ℕ) (active : OpenTransaction) (asked : Asked)
+    (opened : List Table) (entries more : List Entry) (number : ℕ) (active : OpenTransaction)
+    (asked : Asked)
     → IsOpen opened entries number active
     → meaning_in opened (state_after opened first_state (entries ++ more)).commits active asked
     ≡ meaning_in opened (state_after opened first_state entries).commits active asked

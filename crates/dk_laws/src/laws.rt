@@ -1,11 +1,13 @@
-//! What replies are, and what a session is beside others. None of these functions does anything: what is proved is its
-//! contract.
+//! What replies are, and what a session is beside others. None of these functions does anything:
+//! what is proved is its contract.
 ghost use Rattle.dk_laws.specs.ConflictLaws.{ConflictsHaveCauses};
-ghost use Rattle.dk_laws.specs.KindLaws.{MeaningsSuitKinds, RefusalsMayBeReplied, SizesMayBeReplied};
+ghost use Rattle.dk_laws.specs.KindLaws.{MeaningsSuitKinds, RefusalsMayBeReplied};
+ghost use Rattle.dk_laws.specs.KindLaws.{SizesMayBeReplied};
 ghost use Rattle.dk_laws.specs.ReceiptLaws.{ReceiptsCountCommits};
 ghost use Rattle.dk_laws.specs.SessionLaws.{OthersLeaveASession, OthersLeaveAMeaning};
 
-/// A SELECT means rows, a change a change, a creation a creation, each or a refusal, and all others mean nothing.
+/// A SELECT means rows, a change a change, a creation a creation, each or a refusal, and all others
+/// mean nothing.
 #[tactic(auto, using(crate::proofs::KindLemmas::meanings_suit_kinds))]
 pub fn meanings_suit_kinds()
     ensures { MeaningsSuitKinds }
@@ -40,8 +42,8 @@ pub fn receipts_count_commits()
     ensures { ReceiptsCountCommits }
 {}
 
-/// A conflict names a row that the statement changes, and a commit above its start or another session's transaction
-/// that held it since the call.
+/// A conflict names a row that the statement changes, and a commit above its start or another
+/// session's transaction that held it since the call.
 pub fn conflicts_have_causes()
     ensures { ConflictsHaveCauses }
 {}
