@@ -1,8 +1,10 @@
 -- In a history of one thread the answer to a call may be replied to it, and is neither a stop nor a fault.
-use Rattle.std.proofs.Common.{◌≡◌, ⊎_elim, ℕ, ◌+◌, ◌-◌, ◌<◌, ◌≤◌, Bool, true, false, List, [], ◌∷◌, length, Option, Some, None, ap, ◌∙◌, sym, refl, subst, arith}
+use Rattle.std.proofs.Common.{◌≡◌, ⊎_elim, ℕ, ◌+◌, ◌-◌, ◌<◌, ◌≤◌, Bool, true, false, List, [], ◌∷◌, length, Option}
+use Rattle.std.proofs.Common.{Some, None, ap, ◌∙◌, sym, refl, subst, arith}
 use Rattle.std.specs.Prelude.{◌&&◌, ◌||◌, not, is_none, option_map, ◌==◌, if◌then◌else◌}
 use Rattle.std.specs.List.{list_all}
-use Rattle.std.proofs.lemmas.Bool.{false≢true, and_from, and_right, or_left, or_right, cases_lt, le-leb, eq-eqb, eqb-true, eqb-false, not_from_false}
+use Rattle.std.proofs.lemmas.Bool.{false≢true, and_from, and_right, or_left, or_right, cases_lt, le-leb, eq-eqb}
+use Rattle.std.proofs.lemmas.Bool.{eqb-true, eqb-false, not_from_false}
 use Rattle.dk_types.specs.declared.net.TableNet.{TableNet}
 use Rattle.dk_types.specs.declared.reply.Exhausted.{Exhausted}
 use Rattle.dk_types.specs.declared.reply.Holder.{Holder}
@@ -31,21 +33,28 @@ use Rattle.dk_si.specs.Database.{after, view}
 use Rattle.dk_si.specs.HeldRows.{is_blocked, writes_row, holds, holds_against}
 use Rattle.dk_si.specs.IsStep.{none_blocked, is_founded}
 use Rattle.dk_si.specs.Machine.{asks_for, begins_one, is_outside, kind_of, meaning_in, net_after, session_at, write_set}
-use Rattle.dk_si.specs.MayAnswer.{may_answer, statement_answers, outside_answers, aborted_answers, open_answers, commit_answers, create_answers, select_answers, is_meant_refusal, is_refused_from, is_creation, is_change_of, is_any_change, is_that_refusal, is_receipt_for, is_change_reply}
-use Rattle.dk_si.specs.Meaning.{meaning}
-use Rattle.dk_si.specs.Nets.{has_id, is_empty, new_rows}
+use Rattle.dk_si.specs.MayAnswer.{may_answer, statement_answers, outside_answers, aborted_answers, open_answers}
+use Rattle.dk_si.specs.MayAnswer.{commit_answers, create_answers, select_answers, is_meant_refusal, is_refused_from}
+use Rattle.dk_si.specs.MayAnswer.{is_creation, is_change_of, is_any_change, is_that_refusal, is_receipt_for}
+use Rattle.dk_si.specs.MayAnswer.{is_change_reply}
+use Rattle.dk_si.specs.Meaning.{meaning, is_same_refusal}
+use Rattle.dk_si.specs.Nets.{has_id, is_empty}
 use Rattle.dk_si.specs.OneThread.{is_least_held, held_alone, is_spent_alone, are_spent_numbers, may_reply_alone}
-use Rattle.dk_si.specs.ReplyTests.{is_spent_refusal, is_begun, is_in_transaction, is_refused, is_stop, has_no_iteration}
-use Rattle.dk_si.specs.Size.{size_refusal, has_full_group, is_too_large}
+use Rattle.dk_si.specs.ReplyTests.{is_spent_refusal, is_begun, is_in_transaction, is_refused, is_stop, is_fault}
+use Rattle.dk_si.specs.ReplyTests.{has_no_iteration}
+use Rattle.dk_si.specs.Size.{size_refusal}
 use Rattle.dk_si.specs.Spent.{committed_rows, is_spent}
 use Rattle.dk_si.specs.StatesSince.{was_since_call}
-use Rattle.dk_si.specs.Weight.{cap, weight}
-use Rattle.dk_si.specs.Answer.{next_receipt, holder_of, least_where, least_blocked, answer_spent, answer_outside, answer_aborted, answer_commit, answer_create, answer_select, answer_rows, answer_net, answer_change, answer_open, answer_statement, answer}
+use Rattle.dk_si.specs.Weight.{cap}
+use Rattle.dk_si.specs.Answer.{next_receipt, holder_of, least_where, least_blocked, answer_spent, answer_outside}
+use Rattle.dk_si.specs.Answer.{answer_aborted, answer_commit, answer_create, answer_select, answer_rows, answer_net}
+use Rattle.dk_si.specs.Answer.{answer_change, answer_open, answer_statement, answer}
 use Rattle.dk_alone.specs.AnswerLaws.{is_plain}
 use Rattle.dk_alone.proofs.AnswerLemmas.{follows, by_size}
 use Rattle.dk_si.proofs.HolderLemmas.{NoneBelow, sees_all}
 use Rattle.dk_alone.proofs.LeastRowLemmas.{IsLeast, least_found, holder_found}
-use Rattle.dk_alone.proofs.MeaningKindLemmas.{suits, meaning_suits, rows_are_same}
+use Rattle.dk_alone.proofs.SameRowLemmas.{rows_are_same}
+use Rattle.dk_laws.proofs.KindLemmas.{Suits, meaning_suits, sizes_may_be_replied}
 use Rattle.dk_si.proofs.TransitionLemmas.{session_of}
 
 -- the reply passes that test, and whatever else a reply of one thread must
@@ -89,103 +98,57 @@ is_quiet other = false
 
 module _ (opened : List Table) (last : ℕ) (before : List Entry) (machine : Machine) (number : ℕ)
     (touched : Option WriteSet) (past : Option LastTransaction) where
+  fits_by : (may : Reply → Bool) (transaction : Transaction) (asked : Asked) (reply : Reply) → may reply ≡ true
+      → is_founded opened number before machine (session_of transaction (Some asked) touched past) reply ≡ true
+      → may_reply_alone opened machine number transaction (Some asked) reply ≡ true → is_plain asked reply ≡ true
+      → is_stop reply ≡ false → follows last reply ≡ true
+      → Fits may opened last before machine number transaction asked touched past reply
+  fits_by may transaction asked reply passes founded alone plain calm next = record {
+    passes = passes;
+    founded = founded;
+    alone = alone;
+    plain = plain;
+    calm = calm;
+    next = next;
+  }
+
   quiet_refused : (may : Reply → Bool) (transaction : Transaction) (statement : Statement) (refusal : Refusal)
       → is_quiet_refusal refusal ≡ true → may (told.Refused refusal) ≡ true
       → Fits may opened last before machine number transaction (Good statement) touched past (told.Refused refusal)
-  quiet_refused may transaction statement why.NoTransaction quiet passes = record {
-    passes = passes;
-    founded = refl;
-    alone = refl;
-    plain = refl;
-    calm = refl;
-    next = refl;
-  }
-  quiet_refused may transaction statement why.InTransaction quiet passes = record {
-    passes = passes;
-    founded = refl;
-    alone = refl;
-    plain = refl;
-    calm = refl;
-    next = refl;
-  }
-  quiet_refused may transaction statement why.Aborted quiet passes = record {
-    passes = passes;
-    founded = refl;
-    alone =
-        refl;
-    plain = refl;
-    calm = refl;
-    next = refl;
-  }
-  quiet_refused may transaction statement why.Unsupported quiet passes = record {
-    passes = passes;
-    founded = refl;
-    alone = refl;
-    plain = refl;
-    calm = refl;
-    next = refl;
-  }
-  quiet_refused may transaction statement (why.TooLarge bytes rows) quiet passes = record {
-    passes = passes;
-    founded =
-        refl;
-    alone = refl;
-    plain = refl;
-    calm = refl;
-    next = refl;
-  }
+  quiet_refused may transaction statement why.NoTransaction quiet passes =
+      fits_by may transaction (Good statement) (told.Refused why.NoTransaction) passes refl refl refl refl refl
+  quiet_refused may transaction statement why.InTransaction quiet passes =
+      fits_by may transaction (Good statement) (told.Refused why.InTransaction) passes refl refl refl refl refl
+  quiet_refused may transaction statement why.Aborted quiet passes =
+      fits_by may transaction (Good statement) (told.Refused why.Aborted) passes refl refl refl refl refl
+  quiet_refused may transaction statement why.Unsupported quiet passes =
+      fits_by may transaction (Good statement) (told.Refused why.Unsupported) passes refl refl refl refl refl
+  quiet_refused may transaction statement (why.TooLarge bytes rows) quiet passes =
+      fits_by may transaction (Good statement) (told.Refused (why.TooLarge bytes rows)) passes refl refl refl refl refl
   quiet_refused may transaction statement other quiet passes = absurd (false≢true quiet)
 
   quiet : (may : Reply → Bool) (transaction : Transaction) (statement : Statement) (reply : Reply)
       → is_quiet reply ≡ true → may reply ≡ true
       → Fits may opened last before machine number transaction (Good statement) touched past reply
-  quiet may transaction statement (told.Created receipt) h passes = record {
-    passes = passes;
-    founded = refl;
-    alone =
-        refl;
-    plain = refl;
-    calm = refl;
-    next = refl;
-  }
-  quiet may transaction statement (told.Rows rows) h passes = record {
-    passes = passes;
-    founded = refl;
-    alone = refl;
-    plain = refl;
-    calm = refl;
-    next = refl;
-  }
-  quiet may transaction statement (told.Begun start) h passes = record {
-    passes = passes;
-    founded = refl;
-    alone =
-        refl;
-    plain = refl;
-    calm = refl;
-    next = refl;
-  }
-  quiet may transaction statement (told.Committed receipt) h passes = record {
-    passes = passes;
-    founded = refl;
-    alone
-        = refl;
-    plain = refl;
-    calm = refl;
-    next = refl;
-  }
-  quiet may transaction statement told.Ended h passes = record {
-    passes = passes;
-    founded = refl;
-    alone = refl;
-    plain
-        = refl;
-    calm = refl;
-    next = refl;
-  }
-  quiet may transaction statement (told.Refused refusal) h passes = quiet_refused may transaction statement refusal h
-      passes
+  quiet may transaction statement (told.Created receipt) h passes =
+      fits_by may transaction (Good statement) (told.Created receipt) passes refl refl refl refl refl
+  quiet may transaction statement (told.Rows rows) h passes =
+      fits_by may transaction (Good statement) (told.Rows rows) passes refl refl refl refl refl
+  quiet may transaction statement (told.Begun start) h passes =
+      fits_by may transaction (Good statement) (told.Begun start) passes refl refl refl refl refl
+  quiet may transaction statement (told.Committed receipt) h passes =
+      fits_by may transaction (Good statement) (told.Committed receipt) passes refl refl refl refl refl
+  quiet may transaction statement told.Ended h passes =
+      fits_by may transaction (Good statement) told.Ended passes refl refl refl refl refl
+  quiet may transaction statement (told.Refused refusal) h passes =
+      quiet_refused may transaction statement refusal h passes
   quiet may transaction statement other h passes = absurd (false≢true h)
+
+  -- a refusal that is the same as itself
+  same_is_quiet : (refusal : Refusal) → is_same_refusal refusal refusal ≡ true → is_quiet_refusal refusal ≡ true
+  same_is_quiet why.Unsupported same = refl
+  same_is_quiet (why.TooLarge bytes rows) same = refl
+  same_is_quiet other same = absurd (false≢true same)
 
   -- outside a transaction
   checkpoint_if : (statement : Statement) (b : Bool) → (last == MAX_ITERATION) ≡ b → last ≤ MAX_ITERATION
@@ -316,18 +279,17 @@ module _ (opened : List Table) (last : ℕ) (before : List Entry) (machine : Mac
       (told.Refused why.InTransaction) refl refl
 
   select_fits : (transaction : Transaction) (statement : Statement) (meaning : Meaning)
-      → suits meaning form.Select ≡ true
+      → Suits form.Select meaning
       → Fits (select_answers meaning) opened last before machine number transaction (Good statement) touched past
       (answer_select meaning)
   select_fits transaction statement (meant.Rows rows) fit = quiet (select_answers (meant.Rows rows)) transaction
       statement (told.Rows rows) refl (rows_are_same rows)
-  select_fits transaction statement (meant.Refused why.Unsupported) fit =
-      quiet (select_answers (meant.Refused why.Unsupported)) transaction statement (told.Refused why.Unsupported) refl
-      refl
-  select_fits transaction statement (meant.Refused other) fit = absurd (false≢true fit)
-  select_fits transaction statement (meant.Change count part) fit = absurd (false≢true fit)
-  select_fits transaction statement (meant.Create name schema) fit = absurd (false≢true fit)
-  select_fits transaction statement meant.Nothing fit = absurd (false≢true fit)
+  select_fits transaction statement (meant.Refused refusal) fit =
+      quiet (select_answers (meant.Refused refusal)) transaction statement (told.Refused refusal)
+      (same_is_quiet refusal fit.1) (or_left (is_same_refusal refusal refusal) (is_fault refusal) fit.1)
+  select_fits transaction statement (meant.Change count part) fit = absurd (false≢true fit.0)
+  select_fits transaction statement (meant.Create name schema) fit = absurd (false≢true fit.0)
+  select_fits transaction statement meant.Nothing fit = absurd (false≢true fit.0)
 
   -- a creation looks at the last state, which is that of its transaction's start
   refused_there : (active : OpenTransaction) (statement : Statement) (refusal : Refusal)
@@ -342,7 +304,7 @@ module _ (opened : List Table) (last : ℕ) (before : List Entry) (machine : Mac
 
   create_fits : (active : OpenTransaction) (statement : Statement) → active.start ≡ length machine.commits
       → (so : Meaning) → meaning (after opened machine.commits (length machine.commits)) statement ≡ so
-      → suits so form.Create ≡ true
+      → Suits form.Create so
       → Fits (create_answers opened machine.commits active statement) opened last before machine number
       (state.Open active) (Good statement) touched past
       (answer_create machine.commits so)
@@ -352,18 +314,17 @@ module _ (opened : List Table) (last : ℕ) (before : List Entry) (machine : Mac
       (and_from (is_creation (meaning (after opened machine.commits (length machine.commits)) statement))
       (length machine.commits + 1 == length machine.commits + 1)
       (ap is_creation is) (eq-eqb (length machine.commits + 1) (length machine.commits + 1) refl))
-  create_fits active statement start (meant.Refused why.Unsupported) is fit =
+  create_fits active statement start (meant.Refused refusal) is fit =
       quiet (create_answers opened machine.commits active statement) (state.Open active) statement
-      (told.Refused why.Unsupported) refl
-      (refused_there active statement why.Unsupported start (ap (λ m. is_meant_refusal m why.Unsupported) is))
-  create_fits active statement start (meant.Refused other) is fit = absurd (false≢true fit)
-  create_fits active statement start (meant.Rows rows) is fit = absurd (false≢true fit)
-  create_fits active statement start (meant.Change count part) is fit = absurd (false≢true fit)
-  create_fits active statement start meant.Nothing is fit = absurd (false≢true fit)
+      (told.Refused refusal) (same_is_quiet refusal fit.1)
+      (refused_there active statement refusal start (ap (λ m. is_meant_refusal m refusal) is ∙ fit.1))
+  create_fits active statement start (meant.Rows rows) is fit = absurd (false≢true fit.0)
+  create_fits active statement start (meant.Change count part) is fit = absurd (false≢true fit.0)
+  create_fits active statement start meant.Nothing is fit = absurd (false≢true fit.0)
 
   create_if : (active : OpenTransaction) (statement : Statement) (fresh : Bool)
       → (fresh ≡ true → active.start ≡ length machine.commits)
-      → suits (meaning (after opened machine.commits (length machine.commits)) statement) form.Create ≡ true
+      → Suits form.Create (meaning (after opened machine.commits (length machine.commits)) statement)
       → Fits (λ reply. if fresh then create_answers opened machine.commits active statement reply else is_refused
       is_in_transaction reply)
       opened last before machine number (state.Open active) (Good statement) touched past
@@ -404,21 +365,6 @@ module _ (opened : List Table) (last : ℕ) (before : List Entry) (machine : Mac
   blocked_at start (Some set) = blocked_in start set (least_where (is_blocked machine number start set.table) set.ids)
       (least_found (is_blocked machine number start set.table) set.ids)
 
-  -- what a transaction may be refused for its size
-  abbrev is_size_refusal : Refusal → Bool
-  is_size_refusal why.Unsupported = true
-  is_size_refusal (why.TooLarge bytes rows) = true
-  is_size_refusal other = false
-
-  sized_if : (full large : Bool) (net : List TableNet) (refusal : Refusal)
-      → (if full then Some why.Unsupported else (if large then Some (why.TooLarge (weight net) (cap (new_rows net)))
-      else None)) ≡ Some refusal
-      → is_size_refusal refusal ≡ true
-  sized_if true large net refusal is = let same : why.Unsupported ≡ refusal = cc in ap is_size_refusal (sym same)
-  sized_if false true net refusal is = let same : why.TooLarge (weight net) (cap (new_rows net))
-      ≡ refusal = cc in ap is_size_refusal (sym same)
-  sized_if false false net refusal is = cc
-
   module _ (active : OpenTransaction) (statement : Statement) where
     abbrev means : Meaning
     means = meaning_in opened machine.commits active (Good statement)
@@ -439,26 +385,16 @@ module _ (opened : List Table) (last : ℕ) (before : List Entry) (machine : Mac
     FitsChange reply = Fits changes_so opened last before machine number (state.Open active)
         (Good statement) touched past reply
 
-    size_told : (so : Meaning) → means ≡ so → is_any_change so ≡ true → (refusal : Refusal)
-        → size_refusal net ≡ Some refusal
-        → is_that_refusal (Some refusal) refusal ≡ true
-        → (is_any_change means && is_that_refusal (size_refusal net) refusal) ≡ true
-    size_told so is any refusal sized same =
-        and_from (is_any_change means) (is_that_refusal (size_refusal net) refusal) (ap is_any_change is ∙ any)
-        (ap (λ found. is_that_refusal found refusal) sized ∙ same)
-
-    sized_fits : (so : Meaning) → means ≡ so → is_any_change so ≡ true → (refusal : Refusal)
-        → size_refusal net ≡ Some refusal → is_size_refusal refusal ≡ true
+    -- a refusal that the change means, or that its size has
+    refused_fits : (refusal : Refusal) → is_same_refusal refusal refusal ≡ true
+        → (is_meant_refusal means refusal || (is_any_change means && is_that_refusal (size_refusal net) refusal))
+        ≡ true
         → FitsChange (told.Refused refusal)
-    sized_fits so is any why.Unsupported found sized =
-        quiet changes_so (state.Open active) statement (told.Refused why.Unsupported) refl
-        (or_right (is_meant_refusal means why.Unsupported) _ (size_told so is any why.Unsupported found refl))
-    sized_fits so is any (why.TooLarge bytes rows) found sized =
-        quiet changes_so (state.Open active) statement (told.Refused (why.TooLarge bytes rows)) refl
-        (or_right (is_meant_refusal means (why.TooLarge bytes rows)) _
-        (size_told so is any (why.TooLarge bytes rows) found (and_from (bytes == bytes) (rows == rows)
-        (eq-eqb bytes bytes refl) (eq-eqb rows rows refl))))
-    sized_fits so is any other found sized = absurd (false≢true sized)
+    refused_fits why.Unsupported same may =
+        quiet changes_so (state.Open active) statement (told.Refused why.Unsupported) refl may
+    refused_fits (why.TooLarge bytes rows) same may =
+        quiet changes_so (state.Open active) statement (told.Refused (why.TooLarge bytes rows)) refl may
+    refused_fits other same may = absurd (false≢true same)
 
     receipt_is : (now : Bool) → is_receipt_for machine.commits now
         (if now then Some (next_receipt machine.commits) else None) ≡ true
@@ -529,7 +465,10 @@ module _ (opened : List Table) (last : ℕ) (before : List Entry) (machine : Mac
         → FitsChange (answer_net machine number active count net writes)
     net_fits asks count counts any (Some refusal) is =
         subst FitsChange (sym (by_size machine number active count net writes (Some refusal) is))
-        (sized_fits means refl any refusal is (sized_if (has_full_group net) (is_too_large net) net refusal is))
+        (let same = sizes_may_be_replied net refusal is in
+        refused_fits refusal same (or_right (is_meant_refusal means refusal) _
+        (and_from (is_any_change means) (is_that_refusal (size_refusal net) refusal) any
+        (ap (λ found. is_that_refusal found refusal) is ∙ same))))
     net_fits asks count counts any None is =
         subst FitsChange (sym (by_size machine number active count net writes None is))
         (rows_fit asks count counts (ap is_none is) (least_blocked machine number active.start writes)
@@ -537,22 +476,21 @@ module _ (opened : List Table) (last : ℕ) (before : List Entry) (machine : Mac
 
     change_fits : Asks opened before machine number (session_of (state.Open active)
         (Some (Good statement)) touched past)
-        → (so : Meaning) → means ≡ so → suits so form.Change ≡ true
+        → (so : Meaning) → means ≡ so → Suits form.Change so
         → FitsChange (answer_change machine number active so net writes)
     change_fits asks (meant.Change count part) is fit =
         net_fits asks count (ap (is_change_of count) is ∙ eq-eqb count count refl) (ap is_any_change is)
         (size_refusal net) refl
-    change_fits asks (meant.Refused why.Unsupported) is fit =
-        quiet changes_so (state.Open active) statement (told.Refused why.Unsupported) refl
-        (or_left (is_meant_refusal means why.Unsupported) _ (ap (λ m. is_meant_refusal m why.Unsupported) is))
-    change_fits asks (meant.Refused other) is fit = absurd (false≢true fit)
-    change_fits asks (meant.Rows rows) is fit = absurd (false≢true fit)
-    change_fits asks (meant.Create name schema) is fit = absurd (false≢true fit)
-    change_fits asks meant.Nothing is fit = absurd (false≢true fit)
+    change_fits asks (meant.Refused refusal) is fit =
+        refused_fits refusal fit.1
+        (or_left (is_meant_refusal means refusal) _ (ap (λ m. is_meant_refusal m refusal) is ∙ fit.1))
+    change_fits asks (meant.Rows rows) is fit = absurd (false≢true fit.0)
+    change_fits asks (meant.Create name schema) is fit = absurd (false≢true fit.0)
+    change_fits asks meant.Nothing is fit = absurd (false≢true fit.0)
 
     open_fits : Asks opened before machine number (session_of (state.Open active) (Some (Good statement)) touched past)
         → (active.fresh ≡ true → active.start ≡ length machine.commits) → (kind : Kind) → ((tables : List Table)
-        → suits (meaning tables statement) kind ≡ true)
+        → Suits kind (meaning tables statement))
         → Fits (open_answers opened machine.commits active statement kind) opened last before machine number
         (state.Open active) (Good statement) touched past
         (answer_open opened machine number active statement kind)
@@ -596,22 +534,11 @@ module _ (opened : List Table) (last : ℕ) (before : List Entry) (machine : Mac
       → Fits (may_answer opened machine.commits transaction asked) opened last before machine number transaction asked
       touched past
       (answer opened last machine number transaction asked)
-  answer_fits transaction Unread asks spent within sees = record {
-    passes = refl;
-    founded = refl;
-    alone = refl;
-    plain
-        = refl;
-    calm = refl;
-    next = refl;
-  }
-  answer_fits transaction (Bad at) asks spent within sees = record {
-    passes = refl;
-    founded = refl;
-    alone = refl;
-    plain = refl;
-    calm = refl;
-    next = refl;
-  }
-  answer_fits transaction (Good statement) asks spent within sees = state_fits transaction statement asks spent within
-      sees
+  answer_fits transaction Unread asks spent within sees =
+      fits_by (may_answer opened machine.commits transaction Unread) transaction Unread
+      (answer opened last machine number transaction Unread) refl refl refl refl refl refl
+  answer_fits transaction (Bad at) asks spent within sees =
+      fits_by (may_answer opened machine.commits transaction (Bad at)) transaction (Bad at)
+      (answer opened last machine number transaction (Bad at)) refl refl refl refl refl refl
+  answer_fits transaction (Good statement) asks spent within sees =
+      state_fits transaction statement asks spent within sees

@@ -1,8 +1,10 @@
 -- The history that answers a list of lawful calls is a legal history of one thread.
-use Rattle.std.proofs.Common.{◌≡◌, ⊎_elim, ℕ, zero, suc, ◌+◌, ◌-◌, ◌*◌, ◌<◌, ◌≤◌, Bool, true, false, List, [], ◌∷◌, ◌++◌, length, Some, None, ap, ◌∙◌, sym, refl, subst, arith, slice_get}
+use Rattle.std.proofs.Common.{◌≡◌, ⊎_elim, ℕ, zero, suc, ◌+◌, ◌-◌, ◌*◌, ◌<◌, ◌≤◌, Bool, true, false, List, [], ◌∷◌}
+use Rattle.std.proofs.Common.{◌++◌, length, Some, None, ap, ◌∙◌, sym, refl, subst, arith, slice_get}
 use Rattle.std.specs.Prelude.{◌&&◌, ◌||◌, not, is_none, is_some, ◌==◌, nat_lt, nat_le, if◌then◌else◌}
 use Rattle.std.specs.List.{list_all, filter}
-use Rattle.std.proofs.lemmas.Bool.{false≢true, and_from, and_parts, or_left, or_right, or_cases, or_parts, eq-eqb, eqb-false, ne_eqb, lt-ltb, ltb-true, leb-true, not-true, not-false}
+use Rattle.std.proofs.lemmas.Bool.{false≢true, and_from, and_parts, or_left, or_right, or_cases, or_parts, eq-eqb}
+use Rattle.std.proofs.lemmas.Bool.{eqb-false, ne_eqb, lt-ltb, ltb-true, leb-true, not-true, not-false}
 use Rattle.dk_types.specs.declared.reply.Reply.{Reply}
 use Rattle.dk_si.specs.declared.database.Table.{Table}
 use Rattle.dk_si.specs.declared.history.Asked.{Asked}
@@ -15,7 +17,8 @@ use Rattle.dk_si.specs.declared.machine.Transaction.{Transaction}
 use Rattle.dk_si.specs.declared.machine.Transaction.TheVariants as state
 use Rattle.dk_si.specs.declared.standing.Standing.{Standing}
 use Rattle.dk_si.specs.Answer.{answer}
-use Rattle.dk_alone.specs.AnswerHistory.{is_call, calls_of, iteration_behind, iteration_after, transaction_at, will_begin, begun_next, reply_next, call_entries, answer_history, are_answered}
+use Rattle.dk_alone.specs.AnswerHistory.{is_call, calls_of, iteration_behind, iteration_after, transaction_at}
+use Rattle.dk_alone.specs.AnswerHistory.{will_begin, begun_next, reply_next, call_entries, answer_history, are_answered}
 use Rattle.dk_alone.specs.AnswerLaws.{is_plain_to, is_plain_entry, are_plain, AnswersAreLegal, AnswersHaveTheCalls}
 use Rattle.dk_si.specs.Exchanges.{exchanges_from, reply_from}
 use Rattle.dk_si.specs.IsStep.{is_step, is_founded, may_begin, may_call, may_reply, if_there}
@@ -23,19 +26,22 @@ use Rattle.dk_si.specs.LawfulCalls.{is_lawful_call}
 use Rattle.dk_si.specs.Laws.{state_after}
 use Rattle.dk_si.specs.Machine.{asks_for, begins_one, first_state, is_outside, next, session_at}
 use Rattle.dk_si.specs.MayAnswer.{may_answer}
-use Rattle.dk_si.specs.OneThread.{OPEN_ROWS, is_open, is_spent_alone, is_step_alone, may_reply_alone, none_in_flight, open_count}
+use Rattle.dk_si.specs.OneThread.{OPEN_ROWS, is_open, is_spent_alone, is_step_alone, may_reply_alone, none_in_flight}
+use Rattle.dk_si.specs.OneThread.{open_count}
 use Rattle.dk_si.specs.Spent.{committed_rows, is_spent}
 use Rattle.dk_si.specs.Standing.{first_standing, standing_and, stands_on}
 use Rattle.dk_si.specs.StatesSince.{was_since_call, is_call_of}
 use Rattle.dk_si.specs.Weight.{cap}
 use Rattle.dk_alone.proofs.AnswerFitLemmas.{Fits, Spent, answer_fits, below_most, spent_numbers}
-use Rattle.dk_alone.proofs.FlightLemmas.{Busy, Idle, all_others, begun_in, busy_begun, busy_reply, called, idle_call, idle_there}
+use Rattle.dk_alone.proofs.FlightLemmas.{Busy, Idle, all_others, begun_in, busy_begun, busy_reply, called, idle_call}
+use Rattle.dk_alone.proofs.FlightLemmas.{idle_there}
 use Rattle.dk_si.proofs.ForwardLemmas.{since_and_one}
 use Rattle.dk_si.proofs.FreshLemmas.{sees}
 use Rattle.dk_alone.proofs.IterationLemmas.{Calm, Counts, busy_counts, counts_begun, counts_call, first_counts, goes_on}
 use Rattle.dk_si.proofs.PlaceLemmas.{found_at}
 use Rattle.dk_si.proofs.TransitionLemmas.{session_of}
-use Rattle.dk_alone.proofs.WalkLemmas.{Bounded, Line, first_bounded, first_line, goes, line_next, next_bounded, walk_is_legal, walks}
+use Rattle.dk_alone.proofs.WalkLemmas.{Bounded, Line, first_bounded, first_line, goes, line_next, next_bounded}
+use Rattle.dk_alone.proofs.WalkLemmas.{walk_is_legal, walks}
 
 -- between two calls
 record Ready (opened : List Table) (it last : ℕ) (before : List Entry) (machine : Machine)

@@ -1,5 +1,6 @@
 -- In a history of one thread at most one call is in flight, and what is carried of stops and iterations has that call.
-use Rattle.std.proofs.Common.{◌≡◌, ⊎_elim, ℕ, zero, suc, ◌-◌, ◌<◌, Bool, true, false, List, [], ◌∷◌, ◌++◌, take, drop, Option, Some, None, ap, ◌∙◌, sym, refl, subst, arith, slice_get, slice_set}
+use Rattle.std.proofs.Common.{◌≡◌, ⊎_elim, ℕ, zero, suc, ◌-◌, ◌<◌, Bool, true, false, List, [], ◌∷◌, ◌++◌, take, drop}
+use Rattle.std.proofs.Common.{Option, Some, None, ap, ◌∙◌, sym, refl, subst, arith, slice_get, slice_set}
 use Rattle.std.specs.Prelude.{not, is_none, nat_lt, if◌then◌else◌}
 use Rattle.std.specs.List.{list_all, filter}
 use Rattle.std.proofs.lemmas.Bool.{false≢true, and_from, and_parts, eq-eqb, ne_eqb, cases_eq}

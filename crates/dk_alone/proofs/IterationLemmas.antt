@@ -1,8 +1,10 @@
 -- In a history of one thread a checkpoint is answered the iteration behind the last one, and such a reply may come.
-use Rattle.std.proofs.Common.{◌≡◌, ⊎_elim, ℕ, ◌+◌, ◌-◌, ◌<◌, ◌≤◌, Bool, true, false, List, [], ◌∷◌, ◌++◌, map, Option, Some, None, ap, ◌∙◌, sym, refl, subst, arith, append-nil}
+use Rattle.std.proofs.Common.{◌≡◌, ⊎_elim, ℕ, ◌+◌, ◌-◌, ◌<◌, ◌≤◌, Bool, true, false, List, [], ◌∷◌, ◌++◌, map, Option}
+use Rattle.std.proofs.Common.{Some, None, ap, ◌∙◌, sym, refl, subst, arith, append-nil}
 use Rattle.std.specs.Prelude.{◌&&◌, ◌||◌, not, ◌==◌, nat_lt, nat_le, if◌then◌else◌}
 use Rattle.std.specs.List.{list_all, list_any, filter, flat_map}
-use Rattle.std.proofs.lemmas.Bool.{true≢false, false≢true, and_from, and_parts, and_right, or_left, or_right, or_cases, eq-eqb, eqb-true, ne_eqb, lt-ltb, ltb-true, le-leb, leb-true, not_from_false}
+use Rattle.std.proofs.lemmas.Bool.{true≢false, false≢true, and_from, and_parts, and_right, or_left, or_right, or_cases}
+use Rattle.std.proofs.lemmas.Bool.{eq-eqb, eqb-true, ne_eqb, lt-ltb, ltb-true, le-leb, leb-true, not_from_false}
 use Rattle.std.proofs.lemmas.List.Folds.{list_all-append, list_any-append, list_all-map}
 use Rattle.dk_types.specs.declared.net.Commit.{Commit}
 use Rattle.dk_types.specs.declared.net.TableNet.{TableNet}
@@ -34,7 +36,10 @@ use Rattle.dk_si.specs.Exchanges.{is_checkpoint}
 use Rattle.dk_si.specs.Machine.{asks_for, kind_of}
 use Rattle.dk_si.specs.MayAnswer.{may_answer, outside_answers, aborted_answers, open_answers, commit_answers}
 use Rattle.dk_si.specs.ReplyTests.{has_no_iteration, is_stop, iteration_of}
-use Rattle.dk_si.specs.Standing.{first_standing, is_of, may_end, may_end_all, may_pay, are_payable, iterates, comes_after, is_only, is_calling, first_stop, is_settled, needs_after, needs_by, owes, owes_iteration, pays, standing_and, stands_on, stopped_after, written_after, written_at, written_by}
+use Rattle.dk_si.specs.Standing.{first_standing, is_of, may_end, may_end_all, may_pay, are_payable, iterates}
+use Rattle.dk_si.specs.Standing.{comes_after, is_only, is_calling, first_stop, is_settled, needs_after, needs_by, owes}
+use Rattle.dk_si.specs.Standing.{owes_iteration, pays, standing_and, stands_on, stopped_after, written_after}
+use Rattle.dk_si.specs.Standing.{written_at, written_by}
 use Rattle.dk_alone.proofs.AnswerLemmas.{follows}
 use Rattle.dk_si.proofs.ExchangeLemmas.{same_if}
 use Rattle.dk_alone.proofs.FlightLemmas.{Busy, flight_of, only_flight}

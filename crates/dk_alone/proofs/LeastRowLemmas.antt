@@ -1,8 +1,10 @@
 -- The least row that is held, and who holds it: what the search finds passes the tests.
-use Rattle.std.proofs.Common.{◌≡◌, ⊎_elim, ℕ, zero, suc, ◌-◌, ◌<◌, ◌≤◌, Bool, true, false, List, [], ◌∷◌, take, drop, Option, Some, None, ap, ◌∙◌, sym, refl, subst, arith}
+use Rattle.std.proofs.Common.{◌≡◌, ⊎_elim, ℕ, zero, suc, ◌-◌, ◌<◌, ◌≤◌, Bool, true, false, List, [], ◌∷◌, take, drop}
+use Rattle.std.proofs.Common.{Option, Some, None, ap, ◌∙◌, sym, refl, subst, arith}
 use Rattle.std.specs.Prelude.{◌&&◌, ◌||◌, not, min, ◌==◌, nat_lt, if◌then◌else◌}
 use Rattle.std.specs.List.{list_all, list_any}
-use Rattle.std.proofs.lemmas.Bool.{true≢false, false≢true, and_from, and_left, and_right, not-true, or_left, or_right, or_from, cases_lt, lt-ltb, le-ltb, eq-eqb, not_from_false}
+use Rattle.std.proofs.lemmas.Bool.{true≢false, false≢true, and_from, and_left, and_right, not-true, or_left, or_right}
+use Rattle.std.proofs.lemmas.Bool.{or_from, cases_lt, lt-ltb, le-ltb, eq-eqb, not_from_false}
 use Rattle.dk_types.specs.declared.net.Commit.{Commit}
 use Rattle.dk_types.specs.declared.reply.Holder.{Holder}
 use Rattle.dk_types.specs.declared.reply.Holder.TheVariants as who
@@ -16,7 +18,8 @@ use Rattle.dk_si.specs.declared.machine.Transaction.TheVariants as state
 use Rattle.dk_si.specs.declared.machine.WriteSet.{WriteSet}
 use Rattle.dk_si.specs.Nets.{has_id, net_has}
 use Rattle.dk_si.specs.Machine.{asks_for, others}
-use Rattle.dk_si.specs.HeldRows.{commit_has, some_commit_has, has_pending_write, other_has_pending_write, is_blocked, commit_holds, session_holds, holds_against, is_rollback}
+use Rattle.dk_si.specs.HeldRows.{commit_has, some_commit_has, has_pending_write, other_has_pending_write, is_blocked}
+use Rattle.dk_si.specs.HeldRows.{commit_holds, session_holds, holds_against, is_rollback}
 use Rattle.dk_si.specs.OneThread.{open_with, open_has, held_alone}
 use Rattle.dk_si.specs.Answer.{first_with, last_change, holder_of, least_where}
 use Rattle.dk_si.proofs.FrontLemmas.{all_by, any_by}

@@ -4,8 +4,8 @@ pub mod AnswerWalkLemmas
 pub mod FlightLemmas
 pub mod IterationLemmas
 pub mod LeastRowLemmas
-pub mod MeaningKindLemmas
 pub mod OneHolderLemmas
 pub mod OnlyAnswerLemmas
 pub mod ReplyAnswerLemmas
+pub mod SameRowLemmas
 pub mod WalkLemmas

@@ -1,5 +1,6 @@
 -- A legal history of one thread, in which each call has its reply and all are plain, is the one that answers its calls.
-use Rattle.std.proofs.Common.{◌≡◌, ℕ, ◌+◌, Bool, true, false, List, [], ◌∷◌, ◌++◌, map, length, Option, Some, None, ap, ◌∙◌, sym, refl, subst}
+use Rattle.std.proofs.Common.{◌≡◌, ℕ, ◌+◌, Bool, true, false, List, [], ◌∷◌, ◌++◌, map, length, Option, Some, None, ap}
+use Rattle.std.proofs.Common.{◌∙◌, sym, refl, subst}
 use Rattle.std.specs.Prelude.{◌&&◌, ◌||◌, not, option_map, ◌==◌, nat_lt}
 use Rattle.std.proofs.lemmas.Bool.{false≢true, and_from, and_parts, eqb-true}
 use Rattle.dk_types.specs.declared.net.Commit.{Commit}
@@ -24,18 +25,22 @@ use Rattle.dk_si.specs.declared.machine.Transaction.TheVariants as state
 use Rattle.dk_si.specs.declared.machine.WriteSet.{WriteSet}
 use Rattle.dk_si.specs.declared.standing.Standing.{Standing}
 use Rattle.dk_si.specs.Answer.{answer, timeless, timeless_receipt}
-use Rattle.dk_alone.specs.AnswerHistory.{calls_of, iteration_and, iteration_behind, iteration_after, transaction_at, will_begin, begun_next, reply_next, answer_history, timeless_entry, are_answered}
+use Rattle.dk_alone.specs.AnswerHistory.{calls_of, iteration_and, iteration_behind, iteration_after, transaction_at}
+use Rattle.dk_alone.specs.AnswerHistory.{will_begin, begun_next, reply_next, answer_history, timeless_entry}
+use Rattle.dk_alone.specs.AnswerHistory.{are_answered}
 use Rattle.dk_alone.specs.AnswerLaws.{is_plain, is_plain_to, are_plain, HistoriesAreAnswers}
 use Rattle.dk_si.specs.Exchanges.{exchanges_from}
 use Rattle.dk_si.specs.IsStep.{may_begin, may_call, may_reply, if_there}
 use Rattle.dk_si.specs.Laws.{state_after}
-use Rattle.dk_si.specs.Machine.{after_open_reply, after_reply, asks_for, begins_one, change_transition, first_state, is_outside, kind_of, net_behind, next, session_at, transition}
+use Rattle.dk_si.specs.Machine.{after_open_reply, after_reply, asks_for, begins_one, change_transition, first_state}
+use Rattle.dk_si.specs.Machine.{is_outside, kind_of, net_behind, next, session_at, transition}
 use Rattle.dk_si.specs.MayAnswer.{may_answer, outside_answers}
 use Rattle.dk_si.specs.OneThread.{is_spent_alone, are_spent_numbers, may_reply_alone, none_in_flight}
 use Rattle.dk_si.specs.ReplyTests.{is_refused, is_spent_refusal}
 use Rattle.dk_si.specs.Standing.{first_standing, standing_and}
 use Rattle.dk_alone.proofs.AnswerWalkLemmas.{entries_if, found_transaction}
-use Rattle.dk_alone.proofs.FlightLemmas.{Busy, Idle, begun_in, busy_begun, busy_call, busy_reply, called, idle_begun, idle_call, idle_reply, is_there}
+use Rattle.dk_alone.proofs.FlightLemmas.{Busy, Idle, begun_in, busy_begun, busy_call, busy_reply, called, idle_begun}
+use Rattle.dk_alone.proofs.FlightLemmas.{idle_call, idle_reply, is_there}
 use Rattle.dk_alone.proofs.IterationLemmas.{Counts, busy_counts, counts_begun, counts_call, first_counts}
 use Rattle.dk_si.proofs.TransitionLemmas.{session_of}
 use Rattle.dk_alone.proofs.WalkLemmas.{Line, first_line, goes, legal_walks, line_next, walks}
@@ -265,14 +270,21 @@ Follows opened it last before machine standing entry rest calls =
     → are_plain opened (next opened machine entry) rest ≡ true
     → map timeless_entry rest ≡ answer_history opened (iteration_and last entry) (next opened machine entry) calls
 
-reply_turn : (opened : List Table) (it last : ℕ) (before : List Entry) (machine : Machine) (standing : Standing)
-    (number : ℕ) (session : Session) (asked : Asked) (place : ℕ)
-    → Line opened before machine → Busy machine standing number session asked place → Counts it last standing
+-- what is so of each reply that comes next, where what follows it is answered as its calls are
+abbrev OfReplies : List Table → ℕ → ℕ → List Entry → Machine → Standing → ℕ → Session → Asked → ℕ
+    → (ℕ → Reply → List Entry → List (ℕ × Asked) → Type 0) → Type 0
+OfReplies opened it last before machine standing number session asked place Is =
+    Line opened before machine → Busy machine standing number session asked place → Counts it last standing
     → (at : ℕ) (reply : Reply) (rest : List Entry) (calls : List (ℕ × Asked))
     → walks opened it before machine standing (history.Reply at reply ∷ rest) ≡ true
     → are_plain opened machine (history.Reply at reply ∷ rest) ≡ true
     → Follows opened it last before machine standing (history.Reply number reply) rest calls
-    → Replies opened it last before machine standing number asked at reply rest calls
+    → Is at reply rest calls
+
+reply_turn : (opened : List Table) (it last : ℕ) (before : List Entry) (machine : Machine) (standing : Standing)
+    (number : ℕ) (session : Session) (asked : Asked) (place : ℕ)
+    → OfReplies opened it last before machine standing number session asked place
+    (λ at reply rest calls. Replies opened it last before machine standing number asked at reply rest calls)
 reply_turn opened it last before machine standing number session asked place line busy counts at reply rest calls walk
     plain more =
     let first = goes_of opened it before machine standing (history.Reply at reply)
@@ -418,13 +430,9 @@ begun_turn opened it last before machine standing number session asked place lin
 
 reply_alone : (opened : List Table) (it last : ℕ) (before : List Entry) (machine : Machine) (standing : Standing)
     (number : ℕ) (session : Session) (asked : Asked) (place : ℕ)
-    → Line opened before machine → Busy machine standing number session asked place → Counts it last standing
-    → (at : ℕ) (reply : Reply) (rest : List Entry) (calls : List (ℕ × Asked))
-    → walks opened it before machine standing (history.Reply at reply ∷ rest) ≡ true
-    → are_plain opened machine (history.Reply at reply ∷ rest) ≡ true
-    → Follows opened it last before machine standing (history.Reply number reply) rest calls
-    → history.Reply at (timeless reply) ∷ map timeless_entry rest ≡ answered_if opened last machine number asked calls
-    (will_begin opened machine number asked)
+    → OfReplies opened it last before machine standing number session asked place
+    (λ at reply rest calls. history.Reply at (timeless reply) ∷ map timeless_entry rest
+    ≡ answered_if opened last machine number asked calls (will_begin opened machine number asked))
 reply_alone opened it last before machine standing number session asked place line busy counts at reply rest calls
     walk plain more =
     let turn = reply_turn opened it last before machine standing number session asked place line busy counts at reply

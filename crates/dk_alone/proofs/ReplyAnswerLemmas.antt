@@ -1,5 +1,6 @@
 -- In a history of one thread a plain reply is the answer in the state before it.
-use Rattle.std.proofs.Common.{◌≡◌, ◌⊎◌, inl, inr, ℕ, ◌-◌, Bool, true, false, List, [], ◌∷◌, ◌++◌, Some, None, ◌∙◌, sym, refl, subst}
+use Rattle.std.proofs.Common.{◌≡◌, ◌⊎◌, inl, inr, ℕ, ◌-◌, Bool, true, false, List, [], ◌∷◌, ◌++◌, Some, None, ◌∙◌, sym}
+use Rattle.std.proofs.Common.{refl, subst}
 use Rattle.std.specs.Prelude.{◌&&◌}
 use Rattle.std.proofs.lemmas.Bool.{and_parts}
 use Rattle.std.proofs.lemmas.Option.{same_Some}
@@ -21,7 +22,8 @@ use Rattle.dk_si.specs.MayAnswer.{may_answer}
 use Rattle.dk_si.specs.OneThread.{is_step_alone, may_reply_alone, none_in_flight}
 use Rattle.dk_si.specs.Standing.{first_standing, standing_and, stands_on}
 use Rattle.dk_alone.proofs.AnswerLemmas.{told_is_answer}
-use Rattle.dk_alone.proofs.FlightLemmas.{Busy, Idle, begun_in, busy_begun, busy_call, busy_reply, called, idle_begun, idle_call, idle_reply, is_there, same_session}
+use Rattle.dk_alone.proofs.FlightLemmas.{Busy, Idle, begun_in, busy_begun, busy_call, busy_reply, called, idle_begun}
+use Rattle.dk_alone.proofs.FlightLemmas.{idle_call, idle_reply, is_there, same_session}
 use Rattle.dk_si.proofs.FreshLemmas.{sees}
 use Rattle.dk_alone.proofs.IterationLemmas.{Counts, busy_counts, busy_follows, counts_begun, counts_call, first_counts}
 use Rattle.dk_alone.proofs.OneHolderLemmas.{has_one_holder}

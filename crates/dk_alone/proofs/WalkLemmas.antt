@@ -1,5 +1,6 @@
 -- Legal histories of one thread as a walk: entry by entry, with the state and what is carried of stops and iterations.
-use Rattle.std.proofs.Common.{◌≡◌, ℕ, ◌+◌, ◌-◌, ◌≤◌, Bool, true, false, List, [], ◌∷◌, ◌++◌, length, Option, Some, None, ap, ◌∙◌, sym, refl, subst, arith, slice_set, length-set, append-nil, append_assoc}
+use Rattle.std.proofs.Common.{◌≡◌, ℕ, ◌+◌, ◌-◌, ◌≤◌, Bool, true, false, List, [], ◌∷◌, ◌++◌, length, Option, Some, None}
+use Rattle.std.proofs.Common.{ap, ◌∙◌, sym, refl, subst, arith, slice_set, length-set, append-nil, append_assoc}
 use Rattle.std.specs.Prelude.{◌&&◌, nat_lt, if◌then◌else◌}
 use Rattle.std.proofs.lemmas.Bool.{and_from, and_parts, ltb-true}
 use Rattle.dk_types.specs.declared.reply.Reply.{Reply}
@@ -167,24 +168,12 @@ set_bounded machine number begun new bounded le after sessions same = record {
   counted = subst (λ n. n ≤ MAX_TRANSACTIONS) (sym same) le;
 }
 
-call_bounded : (machine : Machine) (number : ℕ) (asked : Asked) (found : Option Session) → Bounded machine
-    → Bounded (elim found as (λ x. Machine) [ None ↦ machine | Some before ↦ after_call machine number asked before ])
-call_bounded machine number asked None bounded = bounded
-call_bounded machine number asked (Some before) bounded =
-    set_bounded machine number machine.begun _ bounded bounded.counted (after_call machine number asked before) refl
-    refl
-
-begun_bounded : (machine : Machine) (session number start : ℕ) (found : Option Session) → Bounded machine
-    → Bounded (elim found as (λ x. Machine) [
-      | None ↦ machine
-      | Some before ↦ after_begin machine session number start
-          before
-    ])
-begun_bounded machine session number start None bounded = bounded
-begun_bounded machine session number start (Some before) bounded =
-    set_bounded machine session (next_number machine.begun) _ bounded (next_within machine.begun MAX_TRANSACTIONS
-    (nat_lt machine.begun MAX_TRANSACTIONS) refl bounded.counted)
-    (after_begin machine session number start before) refl refl
+-- what an entry makes of its session
+found_bounded : (machine : Machine) (behind : Session → Machine) → Bounded machine
+    → ((before : Session) → Bounded (behind before)) → (found : Option Session)
+    → Bounded (elim found as (λ x. Machine) [ None ↦ machine | Some before ↦ behind before ])
+found_bounded machine behind bounded each None = bounded
+found_bounded machine behind bounded each (Some before) = each before
 
 reply_bounded : (opened : List Table) (machine : Machine) (number : ℕ) (reply : Reply) (transaction : Transaction)
     (asked : Option Asked) (touched : Option WriteSet) (past : Option LastTransaction)
@@ -199,22 +188,21 @@ reply_bounded opened machine number reply (state.Open active) asked touched past
     set_bounded machine number machine.begun _ bounded bounded.counted (after_reply opened machine number
     (session_of (state.Open active) asked touched past) reply) refl refl
 
-told_bounded : (opened : List Table) (machine : Machine) (number : ℕ) (reply : Reply) (found : Option Session)
-    → Bounded machine
-    → Bounded (elim found as (λ x. Machine) [
-      | None ↦ machine
-      | Some before ↦ after_reply opened machine number before
-          reply
-    ])
-told_bounded opened machine number reply None bounded = bounded
-told_bounded opened machine number reply (Some before) bounded =
-    reply_bounded opened machine number reply before.transaction before.asked before.writes before.last bounded
-
 pub next_bounded : (opened : List Table) (machine : Machine) (entry : Entry) → Bounded machine
     → Bounded (next opened machine entry)
-next_bounded opened machine (history.Call number asked) bounded = call_bounded machine number asked
-    (session_at machine.sessions number) bounded
+next_bounded opened machine (history.Call number asked) bounded =
+    found_bounded machine (λ before. after_call machine number asked before) bounded
+    (λ before. set_bounded machine number machine.begun _ bounded bounded.counted
+    (after_call machine number asked before) refl refl)
+    (session_at machine.sessions number)
 next_bounded opened machine (history.Begun session number start) bounded =
-    begun_bounded machine session number start (session_at machine.sessions session) bounded
-next_bounded opened machine (history.Reply number reply) bounded = told_bounded opened machine number reply
-    (session_at machine.sessions number) bounded
+    found_bounded machine (λ before. after_begin machine session number start before) bounded
+    (λ before. set_bounded machine session (next_number machine.begun) _ bounded
+    (next_within machine.begun MAX_TRANSACTIONS (nat_lt machine.begun MAX_TRANSACTIONS) refl bounded.counted)
+    (after_begin machine session number start before) refl refl)
+    (session_at machine.sessions session)
+next_bounded opened machine (history.Reply number reply) bounded =
+    found_bounded machine (λ before. after_reply opened machine number before reply) bounded
+    (λ before. reply_bounded opened machine number reply before.transaction before.asked before.writes before.last
+    bounded)
+    (session_at machine.sessions number)

@@ -1,6 +1,8 @@
--- The history of one thread that answers a list of calls: each call, its Begun entry where it makes one, and its reply.
+-- The history of one thread that answers a list of calls: each call, its Begun entry where it makes
+-- one, and its reply.
 use Rattle.std.specs.List.{list_all}
-use Rattle.std.specs.Prelude.{ℕ, Bool, List, [], ◌∷◌, ◌++◌, Some, None, if◌then◌else◌, ◌&&◌, not, is_some, length, nat_lt, nat_le}
+use Rattle.std.specs.Prelude.{ℕ, Bool, List, [], ◌∷◌, ◌++◌, Some, None, if◌then◌else◌, ◌&&◌, not}
+use Rattle.std.specs.Prelude.{is_some, length, nat_lt, nat_le}
 use Rattle.dk_types.specs.declared.reply.Reply.{Reply}
 use Rattle.dk_types.specs.declared.reply.Reply.TheVariants as reply
 use Rattle.dk_si.specs.declared.database.Table.{Table}
@@ -41,7 +43,8 @@ iteration_and iteration (entry.Reply session reply) = iteration_behind iteration
 
 abbrev pub iteration_after : ℕ → List Entry → ℕ
 iteration_after iteration [] = iteration
-iteration_after iteration (entry ∷ entries) = iteration_after (iteration_and iteration entry) entries
+iteration_after iteration (entry ∷ entries) =
+    iteration_after (iteration_and iteration entry) entries
 
 -- the transaction of the session of that number
 abbrev pub transaction_at : Machine → ℕ → Transaction
@@ -50,7 +53,8 @@ transaction_at machine number = elim (session_at machine.sessions number) [
   | Some session ↦ session.transaction
 ]
 
--- a transaction begins with the call in flight: it asks for one outside a transaction, and a further one can begin
+-- a transaction begins with the call in flight: it asks for one outside a transaction, and a
+-- further one can begin
 abbrev pub will_begin : List Table → Machine → ℕ → Asked → Bool
 will_begin opened machine number asked =
     (asks_for begins_one (Some asked) && is_outside (transaction_at machine number))
@@ -63,7 +67,8 @@ begun_next machine number = entry.Begun number machine.begun (length machine.com
 -- the reply to the call in flight, where the last iteration so far is this one
 abbrev pub reply_next : List Table → ℕ → Machine → ℕ → Asked → Entry
 reply_next opened iteration machine number asked =
-    entry.Reply number (answer opened iteration machine number (transaction_at machine number) asked)
+    entry.Reply number
+    (answer opened iteration machine number (transaction_at machine number) asked)
 
 -- what follows a call: its Begun entry, where it makes one, and the reply in the state behind that
 abbrev pub answer_entries : List Table → ℕ → Machine → ℕ → Asked → List Entry
@@ -84,7 +89,8 @@ abbrev pub answer_history : List Table → ℕ → Machine → List (ℕ × Aske
 answer_history opened iteration machine [] = []
 answer_history opened iteration machine (call ∷ calls) =
     let entries = call_entries opened iteration machine call.0 call.1 in
-    entries ++ answer_history opened (iteration_after iteration entries) (state_after opened machine entries) calls
+    entries ++ answer_history opened (iteration_after iteration entries)
+    (state_after opened machine entries) calls
 
 -- an entry without the moment of its receipt
 abbrev pub timeless_entry : Entry → Entry
