@@ -43,7 +43,6 @@ use Rattle.dk_si.specs.MayAnswer.{open_answers, may_answer}
 use Rattle.dk_si.specs.Meaning.{meaning, is_same_refusal}
 use Rattle.dk_laws.specs.SessionLaws.{session_in}
 use Rattle.dk_si.specs.StatesSince.{is_call_of, states_from, states_since, was_since_call}
-use Rattle.dk_si.proofs.FreshLemmas.{is_asked}
 use Rattle.dk_si.proofs.GrowthLemmas.{Grown, entry_grows}
 use Rattle.dk_si.proofs.HolderLemmas.{not_both}
 use Rattle.dk_si.proofs.PlaceLemmas.{last_place, set_place, found_at}
@@ -267,6 +266,11 @@ reply_follows opened number past machine reply follows = record {
       (session_at machine.sessions number) session refl is) asked);
 }
 
+-- a transaction begins for a call
+begins_for_a_call : (asked : Option Asked) → asks_for begins_one asked ≡ true → is_none asked ≡ false
+begins_for_a_call None begins = absurd (false≢true begins)
+begins_for_a_call (Some asked) begins = refl
+
 -- a session whose transaction begins had none
 had_none : (machine : Machine) (number transaction start : ℕ) (past : Machine) (found : Option Session)
     → (old : Session) (active : OpenTransaction)
@@ -276,7 +280,7 @@ had_none : (machine : Machine) (number transaction start : ℕ) (past : Machine)
 had_none machine number transaction start past None old active follows is may was opens = false≢true may
 had_none machine number transaction start past (Some before) old active follows is may was opens =
     let h = and_parts (asks_for begins_one before.asked) (is_outside before.transaction) (and_parts _ _ may).0 in
-    false≢true (ap is_outside (sym (follows.stays old before active was opens is (is_asked before.asked h.0))) ∙ h.1)
+    false≢true (ap is_outside (sym (follows.stays old before active was opens is (begins_for_a_call before.asked h.0))) ∙ h.1)
 
 begun_follows : (opened : List Table) (number transaction start : ℕ) (past machine : Machine)
     → if_there (may_begin machine transaction start) (session_at machine.sessions number) ≡ true
