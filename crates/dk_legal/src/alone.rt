@@ -1,5 +1,5 @@
 //! Histories of one thread: the entries of each call stand together.
-ghost use Rattle.std.specs.Prelude.{◌≡◌, ◌&&◌, Some, None, false, not, is_none, nat_lt, IfOk};
+ghost use Rattle.std.specs.Prelude.{◌≡◌, ◌&&◌, Some, None, false, length, not, is_none, nat_lt, IfOk};
 ghost use Rattle.std.specs.List.{filter, list_all, list_any};
 ghost use Rattle.dk_types.specs.declared.reply.Refusal.TheVariants as refusals;
 ghost use Rattle.dk_si.specs.HeldRows.{is_blocked};
