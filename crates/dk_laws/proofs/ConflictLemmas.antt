@@ -262,10 +262,10 @@ reply_follows opened number past machine reply follows = record {
       (session_at machine.sessions number) session refl is) asked);
 }
 
--- what asks for a transaction is a call
-asks_some : (asked : Option Asked) → asks_for begins_one asked ≡ true → is_none asked ≡ false
-asks_some None e = absurd (false≢true e)
-asks_some (Some asked) e = refl
+-- a transaction begins for a call
+begins_for_a_call : (asked : Option Asked) → asks_for begins_one asked ≡ true → is_none asked ≡ false
+begins_for_a_call None begins = absurd (false≢true begins)
+begins_for_a_call (Some asked) begins = refl
 
 -- a session whose transaction begins had none
 had_none : (machine : Machine) (number transaction start : ℕ) (past : Machine) (found : Option Session)
@@ -276,7 +276,8 @@ had_none : (machine : Machine) (number transaction start : ℕ) (past : Machine)
 had_none machine number transaction start past None old active follows is may was opens = false≢true may
 had_none machine number transaction start past (Some before) old active follows is may was opens =
     let h = and_parts (asks_for begins_one before.asked) (is_outside before.transaction) (and_parts _ _ may).0 in
-    false≢true (ap is_outside (sym (follows.stays old before active was opens is (asks_some before.asked h.0))) ∙ h.1)
+    let asked = begins_for_a_call before.asked h.0 in
+    false≢true (ap is_outside (sym (follows.stays old before active was opens is asked)) ∙ h.1)
 
 begun_follows : (opened : List Table) (number transaction start : ℕ) (past machine : Machine)
     → if_there (may_begin machine transaction start) (session_at machine.sessions number) ≡ true

@@ -1,2 +1,3 @@
 pub mod RefusedSinceLemmas
 pub mod OthersLemmas
+pub mod OpenLemmas

@@ -1,5 +1,5 @@
 //! Histories of one thread: the entries of each call stand together.
-ghost use Rattle.std.specs.Prelude.{◌≡◌, ◌&&◌, Some, None, false, not, is_none, nat_lt, IfOk};
+ghost use Rattle.std.specs.Prelude.{◌≡◌, ◌&&◌, Some, None, false, count_by, not, is_none, nat_lt, IfOk};
 ghost use Rattle.std.specs.List.{list_all, list_any};
 ghost use Rattle.dk_types.specs.declared.reply.Refusal.TheVariants as refusals;
 ghost use Rattle.dk_si.specs.HeldRows.{is_blocked};
@@ -171,15 +171,17 @@ fn is_open(session: &Session) -> bool
     matches!(session.transaction, Transaction::Open(_))
 }
 
+fn open_among(sessions: &[Session]) -> usize
+    ensures { result ≡ count_by is_open sessions.now }
+{
+    sessions.iter().filter(|session| is_open(session)).count()
+}
+
+#[tactic(auto, using(crate::proofs::OpenLemmas::open_are))]
 fn open_count(machine: &Machine) -> usize
     ensures { result ≡ open_count machine.now }
 {
-    machine
-        .sessions
-        .as_slice()
-        .iter()
-        .filter(|session| is_open(session))
-        .count()
+    open_among(machine.sessions.as_slice())
 }
 
 /// Whether no further transaction can begin.

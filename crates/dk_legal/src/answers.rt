@@ -176,8 +176,28 @@ fn is_refused_at(
     Ok(is_meant_refusal(&meant, refused.refusal))
 }
 
-/// Whether the statement is refused so in a state from the start to the last commit.
+/// Whether the statement is refused so in a state from this one to the last commit.
 #[tactic(auto, using(crate::proofs::RefusedSinceLemmas::refused_on))]
+fn is_refused_behind(
+    alloc: Global,
+    log: &CommitLog<'_>,
+    start: u64,
+    refused: &Refused<'_>,
+) -> Result<bool, OutOfMemory>
+    ensures { IfOk result (λ so. so ≡ is_refused_from log.now.opened.now log.now.commits.now
+        refused.now.statement.now refused.now.refusal.now start
+        (length log.now.commits.now - start)) }
+{
+    let more = (log.commits.len() as u64).saturating_sub(start);
+    for step in 0..more {
+        if is_refused_at(alloc, log, start + step, refused)? {
+            return Ok(true);
+        }
+    }
+    is_refused_at(alloc, log, start + more, refused)
+}
+
+/// Whether the statement is refused so in a state since the transaction's start.
 fn is_refused_since(
     alloc: Global,
     inside: &Inside<'_>,
@@ -188,15 +208,7 @@ fn is_refused_since(
         inside.now.active.now.start
         (length inside.now.log.commits.now - inside.now.active.now.start)) }
 {
-    let log = inside.log;
-    let start = inside.active.start;
-    let more = (log.commits.len() as u64).saturating_sub(start);
-    for step in 0..more {
-        if is_refused_at(alloc, &log, start + step, refused)? {
-            return Ok(true);
-        }
-    }
-    is_refused_at(alloc, &log, start + more, refused)
+    is_refused_behind(alloc, &inside.log, inside.active.start, refused)
 }
 
 /// Whether the statement makes a table in the state of the last commit.

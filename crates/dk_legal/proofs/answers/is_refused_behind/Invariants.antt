@@ -1,7 +1,7 @@
 -- The later states decide.
 use Rattle.std.proofs.Common.{◌≡◌, ◌+◌, ◌-◌}
 use Rattle.dk_si.specs.MayAnswer.{is_refused_from}
-use Rattle.dk_legal.proofs.answers.is_refused_since.Given as goal
+use Rattle.dk_legal.proofs.answers.is_refused_behind.Given as goal
 
 abbrev pub invariant-loop-step : goal.invariant-loop-step
 invariant-loop-step l =
