@@ -1,0 +1,5 @@
+pub mod Counted
+pub mod Payload
+pub mod Writable
+pub mod Records
+pub mod Ascending
