@@ -21,3 +21,6 @@ pub use limits::{
 };
 pub use page::{read_page, write_page};
 pub use tree::{read_tree, write_tree};
+
+#[cfg(test)]
+mod tests;
