@@ -1,0 +1,5 @@
+pub mod StringLemmas
+pub mod SegmentLemmas
+pub mod PageLemmas
+pub mod TreeLemmas
+pub mod ChainLemmas

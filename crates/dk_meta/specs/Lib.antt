@@ -1,0 +1,5 @@
+pub mod Strings
+pub mod Chain
+pub mod Segments
+pub mod Page
+pub mod Tree
