@@ -1,3 +1,2 @@
 pub mod RefusedSinceLemmas
 pub mod OthersLemmas
-pub mod OpenLemmas

@@ -1,6 +1,6 @@
 //! Histories of one thread: the entries of each call stand together.
-ghost use Rattle.std.specs.Prelude.{◌≡◌, ◌&&◌, Some, None, false, count_by, not, is_none, nat_lt, IfOk};
-ghost use Rattle.std.specs.List.{list_all, list_any};
+ghost use Rattle.std.specs.Prelude.{◌≡◌, ◌&&◌, Some, None, false, length, not, is_none, nat_lt, IfOk};
+ghost use Rattle.std.specs.List.{filter, list_all, list_any};
 ghost use Rattle.dk_types.specs.declared.reply.Refusal.TheVariants as refusals;
 ghost use Rattle.dk_si.specs.HeldRows.{is_blocked};
 ghost use Rattle.dk_si.specs.Machine.{first_state, session_at};
@@ -172,12 +172,11 @@ fn is_open(session: &Session) -> bool
 }
 
 fn open_among(sessions: &[Session]) -> usize
-    ensures { result ≡ count_by is_open sessions.now }
+    ensures { result ≡ length (filter is_open sessions.now) }
 {
     sessions.iter().filter(|session| is_open(session)).count()
 }
 
-#[tactic(auto, using(crate::proofs::OpenLemmas::open_are))]
 fn open_count(machine: &Machine) -> usize
     ensures { result ≡ open_count machine.now }
 {

@@ -27,3 +27,7 @@ front_after old mid new text more taken front =
       subst (Appends old new) (sym (take-append-add text more front.0))
           (Appends-trans old mid new text (take front.0 more) taken front.2),
     )
+
+pub appends_after : (old mid new : Option (List ℕ)) (text more : List ℕ) → Appends old mid text → Appends mid new more
+    → Appends old new (text ++ more)
+appends_after old mid new text more = Appends-trans old mid new text more

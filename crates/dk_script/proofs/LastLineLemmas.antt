@@ -8,7 +8,7 @@ use Rattle.dk_fault.specs.Causes.{Rose, HasCause}
 use Rattle.dk_io.specs.Sinks.{TakesFront}
 use Rattle.dk_io.specs.declared.streams.Sink.{Ghosts}
 use Rattle.dk_types.specs.declared.status.Status.{Status}
-use Rattle.dk_types.specs.declared.status.Status.TheVariants.{Done, Usage, BadLine, ReadFault, WriteFault, OutOfMemory, ScriptTooLong}
+use Rattle.dk_types.specs.declared.status.Status.TheVariants.{Done, Usage, BadLine, ReadFault, WriteFault, DiskFault, NotADatabase, VersionUnknown, Damaged, OutOfMemory, ScriptTooLong}
 use Rattle.dk_script.specs.LastLine.{last_line}
 use Rattle.dk_script.specs.Sinks.{HasCauseIn}
 use Rattle.dk_script.specs.LineSteps.{IfBothKnown}

@@ -1,22 +1,23 @@
 -- One line of a run.
 use Rattle.std.proofs.Common.{◌≡◌, ℕ, ◌+◌, ◌≤◌, ◌<◌, Bool, true, false, List, [], ◌∷◌, length, Option, Some, None, IfSome, cond, refl, sym, ap, subst, ◌∙◌, arith}
 use Rattle.std.specs.Prelude.{is_some, Result, Ok, Err, OnErr, IfErr}
-use Rattle.std.proofs.lemmas.Bool.{le-leb}
+use Rattle.std.proofs.lemmas.Bool.{le-leb, lt-leb}
 use Rattle.std.proofs.KnownBytes.{Appends-nil}
 use Rattle.std.specs.Io.KnownBytes.{Appends}
 use Rattle.dk_types.specs.declared.reply.Reply.{Reply}
 use Rattle.dk_io.specs.Sinks.{TakesFront}
-use Rattle.dk_io.specs.LinesLeft.{lines_left, Pops}
+use Rattle.dk_io.specs.LinesLeft.{lines_left, Pops, BeginsTooLong}
 use Rattle.dk_script.specs.declared.line.TheConstants.{MAX_LINE}
 use Rattle.dk_script.specs.declared.run.Run.{Run}
 use Rattle.dk_script.specs.Requests.{request_of}
 use Rattle.dk_script.specs.Database.{Database}
 use Rattle.dk_script.specs.Script.{Line, request_in, is_good, short_request, text_outcome, request_text, request_after, output}
-use Rattle.dk_script.specs.LineSteps.{StopsLine, StopsNext, BeginsBad}
+use Rattle.dk_script.specs.LineSteps.{AnswersLine, StopsLine, StopsNext, BeginsBad}
 use Rattle.dk_script.specs.Paging.{IsOutputStop}
+use Rattle.dk_script.specs.Sinks.{HasCauseIn}
 use Rattle.dk_io.specs.ReaderState.{ReaderState}
 use Rattle.dk_types.specs.declared.status.Status.{Status}
-use Rattle.dk_types.specs.declared.status.Status.TheVariants.{BadLine, WriteFault, OutOfMemory}
+use Rattle.dk_types.specs.declared.status.Status.TheVariants.{Done, Usage, BadLine, ReadFault, WriteFault, DiskFault, NotADatabase, VersionUnknown, Damaged, OutOfMemory, ScriptTooLong}
 use Rattle.dk_script.specs.Texts.{session_text}
 use Rattle.dk_script.proofs.FrontLemmas.{front_longer}
 use Rattle.dk_script.proofs.ScriptLemmas.{output_good}
@@ -24,6 +25,23 @@ use Rattle.dk_script.proofs.ScriptLemmas.{output_good}
 short_is : (line : List ℕ) (ask : Option (ℕ × List ℕ)) → length line ≤ MAX_LINE → request_of line ≡ ask
     → short_request line ≡ ask
 short_is line ask short e = ap (λ b. cond b (request_of line) None) (le-leb _ _ short) ∙ e
+
+long_is : (line : List ℕ) → MAX_LINE < length line → short_request line ≡ None
+long_is line long = ap (λ b. cond b (request_of line) None) (lt-leb _ _ long)
+
+-- a line that asks something was answered
+pub answers_line : (db next : Database) (old new : Option (List ℕ)) (line : List ℕ) (session : ℕ) (text : List ℕ)
+    (reply : Reply) → length line ≤ MAX_LINE → request_of line ≡ Some (session, text)
+    → text_outcome db session text ≡ (reply, next) → Appends old new (session_text session [] reply)
+    → AnswersLine db next old new (Some line)
+answers_line db next old new line session text reply short asks answers taken =
+    let e = short_is line (Some (session, text)) short asks in
+    record {
+      good = ap is_some e;
+      text = subst (Appends old new)
+          (sym (ap (request_text db) e ∙ ap (λ (r : Reply × Database). session_text session [] r.0) answers)) taken;
+      state = sym (ap (request_after db) e ∙ ap (λ (r : Reply × Database). r.1) answers);
+    }
 
 -- a front of its reply was taken
 pub front_line : (db next : Database) (old new : Option (List ℕ)) (line : List ℕ) (session : ℕ) (text : List ℕ)
@@ -34,6 +52,21 @@ front_line db next old new line session text reply short asks answers taken =
     let e = short_is line (Some (session, text)) short asks in
     subst (TakesFront old new)
     (sym (ap (request_text db) e ∙ ap (λ (r : Reply × Database). session_text session [] r.0) answers)) taken
+
+-- a line that asks nothing is bad
+pub bad_line : (line : List ℕ) → length line ≤ MAX_LINE → request_of line ≡ None → is_good (Some line) ≡ false
+bad_line line short asks = ap is_some (short_is line None short asks)
+
+-- a line that is passed over asks nothing
+pub answers_passed : (db : Database) (old : Option (List ℕ)) → AnswersLine db db old old None
+answers_passed db old = record { good = refl; text = Appends-nil old; state = refl }
+
+-- a line past the limit is bad
+pub too_long_bad : (a : Option (List Line)) → BeginsTooLong MAX_LINE a → IfSome a BeginsBad
+too_long_bad None long = tt
+too_long_bad (Some []) long = long
+too_long_bad (Some (None ∷ lines)) long = absurd long
+too_long_bad (Some (Some line ∷ lines)) long = ap is_some (long_is line long)
 
 -- a line that was read, and is bad
 pub read_bad : (a b : Option (List Line)) (line : List ℕ) → Pops a (Some (Some line)) b → is_good (Some line) ≡ false
@@ -97,3 +130,12 @@ line_stops WriteFault run next reading a b old new counted pops stops =
 line_stops OutOfMemory run next reading a b old new counted pops stops =
     front_read run.store (lines_left run.reader a) (lines_left reading b) reading.line old new pops stops
 line_stops status run next reading a b old new counted pops stops = absurd stops
+
+-- and has its cause
+pub line_cause : (status : Status) (reading : ReaderState) (db : Database) (old new : Option (List ℕ))
+    (usage read write : Type 0) → StopsLine reading db old new status → (status ≡ WriteFault → write)
+    → HasCauseIn usage read write status
+line_cause (BadLine line) reading db old new usage read write stops fault = tt
+line_cause WriteFault reading db old new usage read write stops fault = fault refl
+line_cause OutOfMemory reading db old new usage read write stops fault = tt
+line_cause status reading db old new usage read write stops fault = absurd stops

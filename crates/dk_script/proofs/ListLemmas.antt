@@ -17,6 +17,10 @@ front_front : {A : Type 0} (front : List A) (x : A) (found : Option (List A × L
 front_front front x None = refl
 front_front front x (Some found) = ap (λ xs. Some (xs, found.1)) (sym (append_assoc front (x ∷ []) found.0))
 
+pub goes_start : {A : Type 0} (item : Reader A) (front : List A) (text : List ℕ)
+    → Goes item front text (with_front front (more_at item (length text) text))
+goes_start item front text = record { turns = length text; enough = omega arith; reads = refl }
+
 turned : {A : Type 0} (item : Reader A) (turns : ℕ) (text rest next : List ℕ) (x : A) → mark_at 44 text ≡ Some rest
     → item rest ≡ Some (x, next)
     → more_at item (suc turns) text ≡ (more_at item turns next >>= λ others. Some (x ∷ others.0, others.1))
@@ -62,3 +66,8 @@ fault_of item front text rest all mark read shorter (suc turns) enough reads =
     sym reads ∙ (ap (λ found. with_front front (more_after item (more_at item turns) text found)) mark
     ∙ ap (λ found. with_front front
     (found >>= λ first. more_at item turns first.1 >>= λ more. Some (first.0 ∷ more.0, more.1))) read)
+
+pub goes_fault : {A : Type 0} (item : Reader A) (front : List A) (text rest : List ℕ) (all : Option (List A × List ℕ))
+    → mark_at 44 text ≡ Some rest → item rest ≡ None → length rest < length text → Goes item front text all → all ≡ None
+goes_fault item front text rest all mark read shorter goes =
+    fault_of item front text rest all mark read shorter goes.turns goes.enough goes.reads

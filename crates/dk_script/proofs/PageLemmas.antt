@@ -1,10 +1,68 @@
 -- Texts on their way to a sink.
-use Rattle.std.proofs.Common.{◌≡◌, ℕ, ◌≤◌, ◌+◌, List, [], ◌++◌, Option, sym, ap, ◌∙◌, arith}
-use Rattle.std.proofs.lemmas.List.{append-nil}
-use Rattle.std.proofs.KnownBytes.{Appends-nil}
+use Rattle.std.proofs.Common.{◌≡◌, ℕ, ◌≤◌, ◌+◌, List, [], ◌++◌, length, take, Option, refl, sym, ap, ◌∙◌, subst, append_assoc, arith, length-append}
+use Rattle.std.proofs.lemmas.List.{append-nil, take-append-le}
+use Rattle.std.proofs.Math.Seq.{take-append_seam, take-append-add}
+use Rattle.std.proofs.KnownBytes.{Appends-nil, Appends-trans}
 use Rattle.std.specs.Io.KnownBytes.{Appends}
 use Rattle.dk_io.specs.Sinks.{TakesFront}
 use Rattle.dk_script.specs.Paging.{Paged}
+
+pub leaves_start : (old : Option (List ℕ)) (page rest : List ℕ) → Paged old old page rest (page ++ rest)
+leaves_start old page rest = record { sent = []; taken = Appends-nil old; whole = refl }
+
+-- more of the rest is on the page
+pub leaves_put : (old new : Option (List ℕ)) (page page' text rest all : List ℕ) → page' ≡ page ++ text
+    → Paged old new page (text ++ rest) all → Paged old new page' rest all
+leaves_put old new page page' text rest all put leaves =
+    record {
+      sent = leaves.sent;
+      taken = leaves.taken;
+      whole =
+          leaves.whole ∙ ap (λ xs. leaves.sent ++ xs)
+          (sym (append_assoc page text rest) ∙ ap (λ xs. xs ++ rest) (sym put));
+    }
+
+-- the page goes out
+pub leaves_send : (old mid new : Option (List ℕ)) (page rest all : List ℕ) → Appends mid new page
+    → Paged old mid page rest all → Paged old new [] rest all
+leaves_send old mid new page rest all sent leaves =
+    record {
+      sent = leaves.sent ++ page;
+      taken = Appends-trans old mid new leaves.sent page leaves.taken sent;
+      whole =
+          leaves.whole ∙ sym (append_assoc leaves.sent page rest);
+    }
+
+pub leaves_end : (old new : Option (List ℕ)) (all : List ℕ) → Paged old new [] [] all → Appends old new all
+leaves_end old new all leaves = subst (Appends old new) (sym (leaves.whole ∙ append-nil leaves.sent)) leaves.taken
+
+-- what the sink took so far is a front of the whole text
+pub leaves_here : (old new : Option (List ℕ)) (page rest all : List ℕ) → Paged old new page rest all
+    → TakesFront old new all
+leaves_here old new page rest all leaves =
+    let sent = leaves.sent in
+    let long : length sent ≤ length (sent ++ (page ++ rest)) = simp length-append (omega arith) in (
+      length sent,
+      subst (λ (xs : List ℕ). length sent ≤ length xs) (sym leaves.whole) long,
+      subst (Appends old new) (sym (ap (take (length sent)) leaves.whole ∙ take-append_seam sent (page ++ rest)))
+          leaves.taken,
+    )
+
+-- a front of the page went out
+pub leaves_front : (old mid new : Option (List ℕ)) (page rest all : List ℕ) → TakesFront mid new page
+    → Paged old mid page rest all → TakesFront old new all
+leaves_front old mid new page rest all front leaves =
+    let sent = leaves.sent in
+    let n = front.0 in
+    let within : n ≤ length page = front.1 in
+    let long : length sent + n ≤ length (sent ++ (page ++ rest)) = simp length-append (omega arith) in
+    let cut : take (length sent + n) all ≡ sent ++ take n page =
+    ap (take (length sent + n)) leaves.whole
+    ∙ (take-append-add sent (page ++ rest) n ∙ ap (λ xs. sent ++ xs) (take-append-le n page rest within)) in (
+      length sent + n,
+      subst (λ (xs : List ℕ). length sent + n ≤ length xs) (sym leaves.whole) long,
+      subst (Appends old new) (sym cut) (Appends-trans old mid new sent (take n page) leaves.taken front.2),
+    )
 
 -- a page that stays is all there is
 pub leaves_kept : (old : Option (List ℕ)) (page : List ℕ) → Paged old old page [] page
@@ -24,3 +82,30 @@ leaves_sent old new page after sent empty =
 -- nothing is a front of each text
 pub front_nothing : (old : Option (List ℕ)) (all : List ℕ) → TakesFront old old all
 front_nothing old all = (0, omega arith, Appends-nil old)
+
+-- the next part of the rest was written
+pub leaves_more : (old mid new : Option (List ℕ)) (page page' text rest rest' all : List ℕ) → rest ≡ text ++ rest'
+    → Paged old mid page rest all → Paged mid new page' [] (page ++ text) → Paged old new page' rest' all
+leaves_more old mid new page page' text rest rest' all next leaves more =
+    let joined : page ++ (text ++ rest') ≡ more.sent ++ (page' ++ rest') =
+    sym (append_assoc page text rest')
+    ∙ (ap (λ xs. xs ++ rest') (more.whole ∙ ap (λ xs. more.sent ++ xs) (append-nil page'))
+    ∙ append_assoc more.sent page' rest') in
+    record {
+      sent = leaves.sent ++ more.sent;
+      taken = Appends-trans old mid new leaves.sent more.sent leaves.taken more.taken;
+      whole = leaves.whole ∙ (ap (λ xs. leaves.sent ++ (page ++ xs)) next
+          ∙ (ap (λ xs. leaves.sent ++ xs) joined ∙ sym (append_assoc leaves.sent more.sent (page' ++ rest'))));
+    }
+
+-- a front of the next part of the rest went out
+pub front_more : (old mid new : Option (List ℕ)) (page text rest rest' all : List ℕ) → rest ≡ text ++ rest'
+    → Paged old mid page rest all → TakesFront mid new (page ++ text) → TakesFront old new all
+front_more old mid new page text rest rest' all next leaves front =
+    leaves_front old mid new (page ++ text) rest' all front
+    (record {
+      sent = leaves.sent;
+      taken = leaves.taken;
+      whole =
+          leaves.whole ∙ ap (λ xs. leaves.sent ++ xs) (ap (λ xs. page ++ xs) next ∙ sym (append_assoc page text rest'));
+    })

@@ -1,10 +1,12 @@
 -- Lines that are answered one after another.
-use Rattle.std.proofs.Common.{◌≡◌, ℕ, ◌+◌, ◌<◌, ◌≤◌, true, List, [], ◌∷◌, ◌++◌, length, drop, get_or, suc, cond, Option, Some, sym, ap, ◌∙◌, add-one, append_assoc}
+use Rattle.std.proofs.Common.{◌≡◌, ℕ, ◌+◌, ◌<◌, ◌≤◌, true, false, List, [], ◌∷◌, ◌++◌, length, drop, get_or, suc, cond, Option, Some, sym, ap, ◌∙◌, add-one, append_assoc}
 use Rattle.std.specs.Prelude.{not}
+use Rattle.std.proofs.lemmas.List.{append-nil, drop_all}
+use Rattle.dk_script.specs.LastLine.{bad_line_text, end_text}
 use Rattle.std.proofs.Math.Seq.{drop-cons}
 use Rattle.dk_script.specs.Database.{Database}
 use Rattle.dk_script.specs.Script.{Line, request_in, is_good, request_text, request_after, output, first_bad_from}
-use Rattle.dk_script.proofs.ScriptLemmas.{output_good}
+use Rattle.dk_script.proofs.ScriptLemmas.{output_good, output_bad}
 
 first_line : (lines : List Line) (i : ℕ) (line : Line) → i < length lines → line ≡ get_or lines i line
     → drop i lines ≡ line ∷ drop (i + 1) lines
@@ -32,3 +34,24 @@ pub bad_later : (lines : List Line) (n i : ℕ) (line : Line) (bad : Option ℕ)
 bad_later lines n i line bad within is good found =
     sym (ap (first_bad_from n) (first_line lines i line within is)
     ∙ ap (λ b. cond (not b) (Some n) (first_bad_from (n + 1) (drop (i + 1) lines))) good) ∙ found
+
+-- a bad line ends the output, and the last line names it
+pub bad_here : (db : Database) (lines : List Line) (n i : ℕ) (line : Line) (out all : List ℕ) (bad : Option ℕ)
+    → i < length lines → line ≡ get_or lines i line → is_good line ≡ false → out ++ output db (drop i lines) ≡ all
+    → first_bad_from n (drop i lines) ≡ bad → out ++ bad_line_text n ≡ all ++ end_text bad
+bad_here db lines n i line out all bad within is wrong written found =
+    let none : output db (drop i lines) ≡ [] = ap (output db) (first_line lines i line within is)
+    ∙ output_bad db line (drop (i + 1) lines) wrong in
+    let here : Some n ≡ bad =
+    sym (ap (first_bad_from n) (first_line lines i line within is)
+    ∙ ap (λ b. cond (not b) (Some n) (first_bad_from (n + 1) (drop (i + 1) lines))) wrong) ∙ found in
+    ap (λ xs. xs ++ bad_line_text n) (sym (append-nil out) ∙ (ap (λ xs. out ++ xs) (sym none) ∙ written))
+    ∙ ap (λ b. all ++ end_text b) here
+
+-- no line is left, and none was bad
+pub none_left : (db : Database) (lines : List Line) (n i : ℕ) (out all : List ℕ) (bad : Option ℕ) → length lines ≤ i
+    → out ++ output db (drop i lines) ≡ all → first_bad_from n (drop i lines) ≡ bad → out ≡ all ++ end_text bad
+none_left db lines n i out all bad over written found =
+    let none : drop i lines ≡ [] = drop_all i lines over in
+    sym (append-nil out) ∙ (ap (λ xs. out ++ output db xs) (sym none)
+    ∙ (written ∙ (sym (append-nil all) ∙ ap (λ b. all ++ end_text b) (sym (ap (first_bad_from n) none) ∙ found))))

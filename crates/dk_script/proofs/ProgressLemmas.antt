@@ -13,7 +13,7 @@ use Rattle.dk_io.specs.ReaderState.{ReaderState}
 use Rattle.dk_io.specs.LinesLeft.{lines_left, Counts}
 use Rattle.dk_io.proofs.PassLemmas.{passes_on}
 use Rattle.dk_types.specs.declared.status.Status.{Status}
-use Rattle.dk_types.specs.declared.status.Status.TheVariants.{Done, BadLine, ReadFault, WriteFault, OutOfMemory, ScriptTooLong}
+use Rattle.dk_types.specs.declared.status.Status.TheVariants.{Done, Usage, BadLine, ReadFault, WriteFault, DiskFault, NotADatabase, VersionUnknown, Damaged, OutOfMemory, ScriptTooLong}
 use Rattle.dk_script.specs.Database.{Database}
 use Rattle.dk_script.specs.LineSteps.{IfBothKnown, AnswersNext, BeginsBad, FailsWithin, StopsNext}
 use Rattle.dk_script.specs.RunEnds.{AreReplies, bytes_taken, whole_lines, Replies}
@@ -50,6 +50,11 @@ starts run old script reader store = record {
   count = ap (λ (r : ReaderState). r.number) reader;
   taken = Appends-nil old;
 }
+
+pub progress_start : (run : Run) (old a : Option (List ℕ)) → run.reader ≡ start → run.store ≡ empty_database
+    → IfBothKnown a a (Progress run old old)
+progress_start run old None reader store = tt
+progress_start run old (Some script) reader store = starts run old script reader store
 
 one_output : (db : Database) (line : Line) → is_good line ≡ true
     → output db (line ∷ []) ≡ request_text db (request_in line)
@@ -237,3 +242,13 @@ progress_stop status run next n m old now new (Some script) None c counts progre
 progress_stop status run next n m old now new (Some script) (Some rest) None counts progress stops = absurd counts
 progress_stop status run next n m old now new (Some script) (Some rest) (Some left) counts progress stops =
     stops_by status run next old now new script rest left progress stops
+
+-- there was no memory before the first line
+pub replies_none : (old a : Option (List ℕ)) → IfBothKnown a a (λ script rest. Replies OutOfMemory script rest old old)
+replies_none old None = tt
+replies_none old (Some script) = record { text = []; due = (0, refl); sent = Appends-nil old }
+
+-- wrong words
+pub replies_unread : (old a : Option (List ℕ)) → IfBothKnown a a (λ script rest. Replies Usage script rest old old)
+replies_unread old None = tt
+replies_unread old (Some script) = record { text = []; due = (refl, refl); sent = Appends-nil old }

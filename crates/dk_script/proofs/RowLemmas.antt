@@ -1,5 +1,5 @@
 -- Rows, and values of a row, that are written one after another.
-use Rattle.std.proofs.Common.{◌≡◌, ℕ, zero, suc, ◌+◌, List, [], ◌∷◌, ◌++◌, drop, Some, sym, ap, ◌∙◌, append_assoc, arith}
+use Rattle.std.proofs.Common.{◌≡◌, ℕ, zero, suc, ◌+◌, List, [], ◌∷◌, ◌++◌, drop, Some, Result, Ok, Err, OnErr, sym, ap, ◌∙◌, append_assoc, arith}
 use Rattle.std.specs.Prelude.{slice_get, codes}
 use Rattle.dk_values.specs.declared.value.Value.{Value}
 use Rattle.dk_script.specs.Texts.{value_text, more_values, row_text, rows_text}
@@ -41,3 +41,13 @@ row_put out put all rows i row e is so_far =
     ap (λ xs. xs ++ rows_text (drop (i + 1) rows)) e
     ∙ (append_assoc out (row_text row) (rows_text (drop (i + 1) rows))
     ∙ (ap (λ xs. out ++ xs) (sym (next_row rows i row is)) ∙ so_far))
+
+-- a row that has a first value
+pub row_text_first : (row : List Value) (v : Value) → slice_get row 0 ≡ Some v
+    → row_text row ≡ value_text v ++ more_values (drop 1 row) ++ codes "\n"
+row_text_first row v is = ap row_text (drop_next row 0 v is)
+
+-- a fact for an error, whatever was returned
+pub on_err_from : {T E P : Type 0} (r : Result T E) → P → OnErr r P
+on_err_from (Ok v) p = tt
+on_err_from (Err e) p = p

@@ -1,7 +1,7 @@
 -- The longest front of a text whose bytes pass a test.
 use Rattle.std.proofs.Common.{◌≡◌, ℕ, suc, ◌+◌, Bool, true, false, ◌&&◌, List, [], ◌∷◌, ◌++◌, length, take, drop, cond, refl, ap, ◌∙◌, arith}
 use Rattle.std.specs.List.{prefix_len, list_all}
-use Rattle.std.proofs.Math.Seq.{drop-append_seam}
+use Rattle.std.proofs.Math.Seq.{take-append_seam, drop-append_seam}
 use Rattle.dk_script.specs.GrammarTokens.{begins}
 
 one_more : (n : ℕ) → 1 + n ≡ suc n
@@ -46,6 +46,10 @@ pub span_len : (p : ℕ → Bool) (xs rest : List ℕ) → list_all p xs ≡ tru
     → prefix_len p (xs ++ rest) ≡ length xs
 span_len p [] rest h stop = no_span p rest stop
 span_len p (x ∷ xs) rest h stop = len_by p x xs rest (p x) refl h (λ more. span_len p xs rest more stop)
+
+pub span_front : (p : ℕ → Bool) (xs rest : List ℕ) → list_all p xs ≡ true → begins p rest ≡ false
+    → take (prefix_len p (xs ++ rest)) (xs ++ rest) ≡ xs
+span_front p xs rest h stop = ap (λ k. take k (xs ++ rest)) (span_len p xs rest h stop) ∙ take-append_seam xs rest
 
 pub span_rest : (p : ℕ → Bool) (xs rest : List ℕ) → list_all p xs ≡ true → begins p rest ≡ false
     → drop (prefix_len p (xs ++ rest)) (xs ++ rest) ≡ rest

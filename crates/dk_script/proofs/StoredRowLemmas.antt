@@ -188,5 +188,10 @@ none_past [] place past = refl
 none_past (table ∷ tables) zero past = absurd (omega (arith, past))
 none_past (table ∷ tables) (suc place) past = none_past tables place (omega (arith, past))
 
+-- and of one that is not
+pub rows_missing : (tables : List Table) (place : ℕ) → length tables ≤ place → present (rows_at place tables) ≡ []
+rows_missing tables place past =
+    ap (λ found. present (unwrap_or (option_map (λ t. t.rows) found) [])) (none_past tables place past)
+
 -- rows that fit, one after another
 pub ruleset fitting_steps = (fits_start, fits_more, fits_no_more, fits_end)
