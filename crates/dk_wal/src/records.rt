@@ -22,12 +22,12 @@ fn sum_of(payload: &[u8]) -> u64
 }
 
 /// Puts the length and the checksum of a payload into the bytes before it.
-fn frame(record: &mut [u8])
-    requires head { FRAME_BYTES ≤ length record.old }
-    requires small { length record.old < 2 ^ 32 }
-    ensures { record.new ≡ framed (drop FRAME_BYTES record.old) }
+fn frame(bytes: &mut [u8])
+    requires head { FRAME_BYTES ≤ length bytes.old }
+    requires small { length bytes.old < 2 ^ 32 }
+    ensures { bytes.new ≡ framed (drop FRAME_BYTES bytes.old) }
 {
-    let (head, payload) = record.split_at_mut(FRAME_BYTES);
+    let (head, payload) = bytes.split_at_mut(FRAME_BYTES);
     let (len, sum) = head.split_at_mut(4);
     len.copy_from_slice(&(payload.len() as u32).to_le_bytes());
     sum.copy_from_slice(&sum_of(payload).to_le_bytes());
