@@ -134,15 +134,15 @@ fn pages_of_each_size(rt: HostRuntime) -> Result<(), Fail> {
 }
 
 /// A tree of so many tables of so many columns, whose names have `len` bytes.
-fn tree_of(alloc: Global, tables: u16, columns: u16, len: u8) -> Result<Vec<u8>, Fail> {
+fn tree_of(alloc: Global, tables: u8, columns: u8, len: u8) -> Result<Vec<u8>, Fail> {
     let mut out = Vec::new(alloc);
-    put_u16(&mut out, tables)?;
+    put_u16(&mut out, u16::from(tables))?;
     for table in 0..tables {
-        put_name(&mut out, table as u8, len)?;
-        put_u16(&mut out, columns)?;
+        put_name(&mut out, table, len)?;
+        put_u16(&mut out, u16::from(columns))?;
         for column in 0..columns {
             put_u8(&mut out, 2)?;
-            put_name(&mut out, column as u8, len)?;
+            put_name(&mut out, column, len)?;
         }
         put_u64(&mut out, 0)?;
     }
@@ -166,7 +166,7 @@ fn trees_of_each_size(rt: HostRuntime) -> Result<(), Fail> {
         is_tree(&rt, &bytes)?;
         assert!(rt; tree_again(rt.alloc(), &bytes)?.is_ok());
     }
-    let faults: [(u16, u16, u8, u64); 4] = [
+    let faults: [(u8, u8, u8, u64); 4] = [
         (65, 1, 1, 0),
         (1, 65, 1, 4),
         (1, 0, 1, 4),
