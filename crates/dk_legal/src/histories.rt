@@ -498,17 +498,29 @@ const TOGETHER: &[Case] = &[
 
 const ROLLBACK_OF_FIRST: Acts = &[(1, Act::Rollback), (1, Act::Ended)];
 
-/// Histories of any threads.
-pub const OF_ANY_THREADS: &[Histories] = &[
+/// Behind a commit of the other session that changed the same rows.
+pub const OF_CONFLICTS: &[Histories] = &[
     (TWO_ROWS, 1, &[WRITERS, COMMITS, UPDATE], CONFLICTS),
     (TWO_ROWS, 1, &[WRITERS, COMMITS, UPDATE], BEHIND_CONFLICT),
+];
+
+/// Beside the other session's transaction that changed the same rows, and behind its end.
+pub const OF_HOLDERS: &[Histories] = &[
     (TWO_ROWS, 1, &[WRITERS, UPDATE], PENDING),
     (TWO_ROWS, 1, &[WRITERS, ROLLBACK, UPDATE], LET_GO),
     (TWO_ROWS, 1, &[WRITERS, ROLLBACK, ENDED, UPDATE], FREE),
-    (TWO_ROWS, 1, &[WRITERS, COMMITS], BEHIND_COMMIT),
-    (TWO_ROWS, 1, &[], FIRST_ACTS),
+];
+
+pub const OF_COMMITS: &[Histories] = &[(TWO_ROWS, 1, &[WRITERS, COMMITS], BEHIND_COMMIT)];
+
+pub const OF_FIRST_ACTS: &[Histories] = &[(TWO_ROWS, 1, &[], FIRST_ACTS)];
+
+pub const OF_OWN_ROWS: &[Histories] = &[
     (TWO_ROWS, 1, &[BEGIN], IN_A_TRANSACTION),
     (TWO_ROWS, 1, &[BEGIN, INSERT], OWN_ROWS),
+];
+
+pub const OF_UPDATED_ROWS: &[Histories] = &[
     (TWO_ROWS, 1, &[BEGIN, INSERT, UPDATES], UPDATED_ROWS),
     (
         TWO_ROWS,
@@ -516,23 +528,45 @@ pub const OF_ANY_THREADS: &[Histories] = &[
         &[BEGIN, INSERT, ROLLBACK_OF_FIRST],
         ROLLED_BACK,
     ),
+];
+
+pub const OF_STOPS: &[Histories] = &[
     (TWO_ROWS, 1, &[ONE_INSERT], INSERTED),
     (TWO_ROWS, 1, &[ONE_INSERT, BEHIND_STOP], STOPPED),
+];
+
+pub const OF_SNAPSHOTS: &[Histories] = &[
     (TWO_ROWS, 1, &[UPDATED, COMMIT, BEHIND], SEES_NEW),
     (TWO_ROWS, 1, &[UPDATED, BEFORE, COMMIT], SEES_OLD),
+];
+
+pub const OF_TABLES: &[Histories] = &[
     (None, 1, &[CREATED], NEW_TABLES),
     (None, 1, &[CREATED, TWO_INSERTS], IN_ORDER),
-    (None, 1, &[CHECKPOINT], ITERATIONS),
+];
+
+pub const OF_ITERATIONS: &[Histories] = &[(None, 1, &[CHECKPOINT], ITERATIONS)];
+
+pub const OF_LAST_ITERATIONS: &[Histories] = &[
     (None, MAX_ITERATION - 1, &[CHECKPOINT], LAST_ITERATION),
     (None, MAX_ITERATION, &[CHECKPOINT], NO_ITERATION),
 ];
 
-/// Histories of one thread.
-pub const OF_ONE_THREAD: &[Histories] = &[
+/// Of one thread, behind a commit or beside a transaction of the other session.
+pub const OF_CONFLICTS_ALONE: &[Histories] = &[
     (TWO_ROWS, 1, &[WRITERS, COMMITS, UPDATE], CONFLICTS_ALONE),
-    (TWO_ROWS, 1, &[WRITERS, COMMITS, UPDATE], BEHIND_CONFLICT),
     (TWO_ROWS, 1, &[WRITERS, UPDATE], PENDING_ALONE),
-    (TWO_ROWS, 1, &[], FIRST_ACTS),
+];
+
+pub const BEHIND_CONFLICTS_ALONE: &[Histories] = &[(
+    TWO_ROWS,
+    1,
+    &[WRITERS, COMMITS, UPDATE],
+    BEHIND_CONFLICT,
+)];
+
+/// Of one thread, with calls that are in flight together.
+pub const OF_CALLS_TOGETHER: &[Histories] = &[
     (None, 1, &[CHECKPOINT], TOGETHER),
     (None, MAX_ITERATION, &[CHECKPOINT], NO_ITERATION),
 ];

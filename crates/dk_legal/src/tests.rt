@@ -1,7 +1,11 @@
 //! Small histories: which are legal, and which are legal of one thread.
 use crate::acts::{entry, opened, rows};
 use crate::alone::{Against, Conflict, is_conflict_alone, is_spent_alone};
-use crate::histories::{Acts, Histories, OF_ANY_THREADS, OF_ONE_THREAD, WRITERS};
+use crate::histories::{
+    Acts, BEHIND_CONFLICTS_ALONE, Histories, OF_CALLS_TOGETHER, OF_COMMITS, OF_CONFLICTS,
+    OF_CONFLICTS_ALONE, OF_FIRST_ACTS, OF_HOLDERS, OF_ITERATIONS, OF_LAST_ITERATIONS, OF_OWN_ROWS,
+    OF_SNAPSHOTS, OF_STOPS, OF_TABLES, OF_UPDATED_ROWS, WRITERS,
+};
 use crate::scene::{RowId, Seat};
 use crate::{run_slow, run_slow_alone};
 use dk_plain::weights::weight;
@@ -62,9 +66,95 @@ fn first_wrong(
 }
 
 #[test]
-fn histories_are_decided(rt: HostRuntime) -> Result<(), Fail> {
-    assert_eq!(rt; first_wrong(rt.alloc(), OF_ANY_THREADS, false)?, None);
-    assert_eq!(rt; first_wrong(rt.alloc(), OF_ONE_THREAD, true)?, None);
+fn conflicts_are_decided(rt: HostRuntime) -> Result<(), Fail> {
+    assert_eq!(rt; first_wrong(rt.alloc(), OF_CONFLICTS, false)?, None);
+    Ok(())
+}
+
+#[test]
+fn rows_that_are_held_are_decided(rt: HostRuntime) -> Result<(), Fail> {
+    assert_eq!(rt; first_wrong(rt.alloc(), OF_HOLDERS, false)?, None);
+    Ok(())
+}
+
+#[test]
+fn commits_are_decided(rt: HostRuntime) -> Result<(), Fail> {
+    assert_eq!(rt; first_wrong(rt.alloc(), OF_COMMITS, false)?, None);
+    Ok(())
+}
+
+#[test]
+fn first_acts_are_decided(rt: HostRuntime) -> Result<(), Fail> {
+    assert_eq!(rt; first_wrong(rt.alloc(), OF_FIRST_ACTS, false)?, None);
+    Ok(())
+}
+
+#[test]
+fn own_rows_are_decided(rt: HostRuntime) -> Result<(), Fail> {
+    assert_eq!(rt; first_wrong(rt.alloc(), OF_OWN_ROWS, false)?, None);
+    Ok(())
+}
+
+#[test]
+fn updated_rows_are_decided(rt: HostRuntime) -> Result<(), Fail> {
+    assert_eq!(rt; first_wrong(rt.alloc(), OF_UPDATED_ROWS, false)?, None);
+    Ok(())
+}
+
+#[test]
+fn stops_are_decided(rt: HostRuntime) -> Result<(), Fail> {
+    assert_eq!(rt; first_wrong(rt.alloc(), OF_STOPS, false)?, None);
+    Ok(())
+}
+
+#[test]
+fn snapshots_are_decided(rt: HostRuntime) -> Result<(), Fail> {
+    assert_eq!(rt; first_wrong(rt.alloc(), OF_SNAPSHOTS, false)?, None);
+    Ok(())
+}
+
+#[test]
+fn new_tables_are_decided(rt: HostRuntime) -> Result<(), Fail> {
+    assert_eq!(rt; first_wrong(rt.alloc(), OF_TABLES, false)?, None);
+    Ok(())
+}
+
+#[test]
+fn iterations_are_decided(rt: HostRuntime) -> Result<(), Fail> {
+    assert_eq!(rt; first_wrong(rt.alloc(), OF_ITERATIONS, false)?, None);
+    Ok(())
+}
+
+#[test]
+fn last_iterations_are_decided(rt: HostRuntime) -> Result<(), Fail> {
+    assert_eq!(rt; first_wrong(rt.alloc(), OF_LAST_ITERATIONS, false)?, None);
+    Ok(())
+}
+
+#[test]
+fn conflicts_of_one_thread_are_decided(rt: HostRuntime) -> Result<(), Fail> {
+    assert_eq!(rt; first_wrong(rt.alloc(), OF_CONFLICTS_ALONE, true)?, None);
+    Ok(())
+}
+
+#[test]
+fn what_follows_a_conflict_of_one_thread_is_decided(rt: HostRuntime) -> Result<(), Fail> {
+    assert_eq!(rt;
+        first_wrong(rt.alloc(), BEHIND_CONFLICTS_ALONE, true)?,
+        None
+    );
+    Ok(())
+}
+
+#[test]
+fn first_acts_of_one_thread_are_decided(rt: HostRuntime) -> Result<(), Fail> {
+    assert_eq!(rt; first_wrong(rt.alloc(), OF_FIRST_ACTS, true)?, None);
+    Ok(())
+}
+
+#[test]
+fn calls_in_flight_together_are_decided(rt: HostRuntime) -> Result<(), Fail> {
+    assert_eq!(rt; first_wrong(rt.alloc(), OF_CALLS_TOGETHER, true)?, None);
     Ok(())
 }
 
