@@ -13,7 +13,7 @@ use Rattle.dk_device.specs.declared.device.Disk.{Ghosts}
 use Rattle.dk_device.specs.Calls.{Call, Stopped}
 use Rattle.dk_device.specs.declared.device.FileId.TheVariants.{Main}
 use Rattle.dk_device.specs.Changes.{images_of}
-use Rattle.dk_device.specs.Disk.{overlaid, TornWrite, Allows}
+use Rattle.dk_device.specs.Disk.{overlay, TornWrite, Allows}
 use Rattle.dk_device.specs.ContentIsImage.{length-overlaid}
 use Rattle.dk_block_file.specs.declared.fault.BlockFault.{BlockFault}
 use Rattle.dk_block_file.specs.declared.fault.BlockFault.TheVariants.{DiskFault, Damaged, OutOfMemory}
@@ -109,18 +109,18 @@ no_fault damage P (Err e) wrong is = absurd cc
 
 -- a block behind its write
 module _ (block : ℕ) (bytes m : List ℕ) (len : length bytes ≡ BLOCK_BYTES) (begins : place_of block ≤ length m) where
-  lies : block < blocks_in (length (overlaid (place_of block) bytes m))
+  lies : block < blocks_in (length (overlay (place_of block) bytes m))
   lies = omega (arith, length-overlaid (place_of block) bytes m)
 
   reads_written : stored_sum bytes ≡ payload_sum bytes
-      → block_read block (overlaid (place_of block) bytes m) ≡ Ok (drop SUM_BYTES bytes)
+      → block_read block (overlay (place_of block) bytes m) ≡ Ok (drop SUM_BYTES bytes)
   reads_written matches =
-      within block (overlaid (place_of block) bytes m) lies
+      within block (overlay (place_of block) bytes m) lies
       ∙ ap (λ (l : List ℕ). payload_in block l) (range_inside (place_of block) BLOCK_BYTES bytes m len begins)
       ∙ opens block bytes matches
 
   other_stays : (k : ℕ) → k < blocks_in (length m) → k ≢ block
-      → block_at k (overlaid (place_of block) bytes m) ≡ block_at k m
+      → block_at k (overlay (place_of block) bytes m) ≡ block_at k m
   other_stays k there not = elim (cases_lt k block) [
     | inl before ↦ range_before (place_of k) BLOCK_BYTES (place_of block) bytes m (omega arith) begins
     | inr behind ↦ ap (λ (l : List ℕ). take BLOCK_BYTES l)
@@ -132,7 +132,7 @@ sealed_matches buf = with_checksum_matches (drop SUM_BYTES buf)
 
 pub told_reads : (block extent : ℕ) (bytes : List ℕ) (old new : Option (List ℕ))
     → IfSome old (λ (m : List ℕ). length m ≡ extent) → place_of block ≤ extent → length bytes ≡ BLOCK_BYTES
-    → stored_sum bytes ≡ payload_sum bytes → new ≡ option_map (overlaid (place_of block) bytes) old
+    → stored_sum bytes ≡ payload_sum bytes → new ≡ option_map (overlay (place_of block) bytes) old
     → IfSome new (λ (m : List ℕ). block_read block m ≡ Ok (drop SUM_BYTES bytes))
 told_reads block extent bytes None new len begins whole matches written = rw written tt
 told_reads block extent bytes (Some m) new len begins whole matches written =
@@ -140,7 +140,7 @@ told_reads block extent bytes (Some m) new len begins whole matches written =
 
 pub told_others : (block extent : ℕ) (bytes : List ℕ) (old new : Option (List ℕ))
     → IfSome old (λ (m : List ℕ). length m ≡ extent) → place_of block ≤ extent → length bytes ≡ BLOCK_BYTES
-    → new ≡ option_map (overlaid (place_of block) bytes) old → (k : ℕ) → k < blocks_in extent → k ≢ block
+    → new ≡ option_map (overlay (place_of block) bytes) old → (k : ℕ) → k < blocks_in extent → k ≢ block
     → option_map (block_at k) new ≡ option_map (block_at k) old
 told_others block extent bytes None new len begins whole written k there not = rw written refl
 told_others block extent bytes (Some m) new len begins whole written k there not =
@@ -189,7 +189,7 @@ pub written_block : {D T E : Type 0} (g : Ghosts D) (block at : ℕ) (bytes : Li
     → IfSome (g.content a Main) (λ (m : List ℕ). length m ≡ g.extent a Main)
     → place_of block ≤ g.extent a Main → length bytes ≡ BLOCK_BYTES → stored_sum bytes ≡ payload_sum bytes
     → at ≡ place_of block
-    → OnOk r (g.content b Main ≡ option_map (overlaid at bytes) (g.content a Main))
+    → OnOk r (g.content b Main ≡ option_map (overlay at bytes) (g.content a Main))
     → OnOk r (g.extent b Main ≡ max (g.extent a Main) (at + length bytes))
     → OnOk r (Allows (TornWrite at (length bytes) (g.extent a Main)) (images_of g a Main) (images_of g b Main))
     → OnOk r (WritesBlock g block bytes a b)
@@ -206,5 +206,5 @@ written_block g block at bytes a b (Ok v) len begins whole matches place written
       torn);
 }
   where
-    there : g.content b Main ≡ option_map (overlaid (place_of block) bytes) (g.content a Main)
-    there = subst (λ (p : ℕ). g.content b Main ≡ option_map (overlaid p bytes) (g.content a Main)) place written
+    there : g.content b Main ≡ option_map (overlay (place_of block) bytes) (g.content a Main)
+    there = subst (λ (p : ℕ). g.content b Main ≡ option_map (overlay p bytes) (g.content a Main)) place written

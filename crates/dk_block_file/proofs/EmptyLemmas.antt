@@ -8,7 +8,7 @@ use Rattle.dk_header.proofs.HeaderLemmas.{main_again, body_again}
 use Rattle.dk_device.specs.declared.device.Disk.{Ghosts}
 use Rattle.dk_device.specs.declared.device.FileId.TheVariants.{Main}
 use Rattle.dk_device.specs.Changes.{images_of, IsSynced}
-use Rattle.dk_device.specs.Disk.{overlaid}
+use Rattle.dk_device.specs.Disk.{overlay}
 use Rattle.dk_block_file.specs.Blocks.{first_header, empty_main}
 use Rattle.dk_block_file.specs.Flips.{gate_place, body_at, gate_at}
 use Rattle.dk_block_file.specs.Current.{HasHeaders, HasCurrent}
@@ -49,10 +49,10 @@ module _ (c e : List ℕ) (front : take HEADERS_BYTES c ≡ e) where
   front_byte i lt = sym (get_or-take HEADERS_BYTES c i 0 lt) ∙ ap (λ (l : List ℕ). get_or l i 0) front
 
 module _ {D : Type 0} (g : Ghosts D) (disk : D) (old : Option (List ℕ))
-    (written : g.content disk Main ≡ option_map (overlaid 0 empty_main) old) (synced : IsSynced g disk Main) where
+    (written : g.content disk Main ≡ option_map (overlay 0 empty_main) old) (synced : IsSynced g disk Main) where
   begins : (c : List ℕ) → images_of g disk Main c → take HEADERS_BYTES c ≡ empty_main
   begins c left =
-      let is = known (overlaid 0 empty_main) old (g.content disk Main) c written (synced c left) in
+      let is = known (overlay 0 empty_main) old (g.content disk Main) c written (synced c left) in
       ap (λ (l : List ℕ). take HEADERS_BYTES l) is.2
       ∙ range_inside 0 HEADERS_BYTES empty_main is.0 length-empty (omega arith)
 

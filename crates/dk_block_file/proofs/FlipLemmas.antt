@@ -14,7 +14,7 @@ use Rattle.dk_device.proofs.ChangeLemmas.{changes_less, changes_now}
 use Rattle.dk_device.proofs.OutcomeLemmas.{on_ok}
 use Rattle.dk_block_file.specs.declared.fault.BlockFault.{BlockFault}
 use Rattle.dk_block_file.specs.declared.layout.TheConstants.{HEADERS_BYTES}
-use Rattle.dk_block_file.specs.Effects.{IsWritten, WritesHeaders}
+use Rattle.dk_block_file.specs.Effects.{IsWritten, WritesHeaders, ClosesGate, WritesBody, OpensGate}
 use Rattle.dk_block_file.specs.Flips.{header_place, gate_place, body_at, gate_at, IsClosed, IsOpen, IsLower, HasBody, HasOneBody, MayClose, closing_bytes}
 use Rattle.dk_block_file.specs.Current.{current_in, HasHeaders, Overtakes, HasCurrent, SameCurrent, SameCurrentOr}
 use Rattle.dk_block_file.proofs.GateLemmas.{length-body, gate_shut, gate_opened, body_is}
@@ -140,7 +140,7 @@ written_part g at bytes a b r headers within extent alone done calls = record {
 
 -- a write of a twin's gate, or of nothing
 module _ {D : Type 0} (g : Ghosts D) (twin : ℕ) (a b : D) (low : twin ≤ 1) (headers : HasHeaders g a) where
-  pub may_close : (was_open : Bool)
+  may_close : (was_open : Bool)
       → Changes g (TornWrite (gate_place twin) (length (closing_bytes was_open)) (g.extent a Main)) Main a b
       → MayClose was_open twin (images_of g a Main) → MayClose was_open twin (images_of g b Main)
   may_close true changes lower = lower_now g twin (gate_place twin) 1 a b low headers (omega arith) (omega arith)
@@ -148,7 +148,7 @@ module _ {D : Type 0} (g : Ghosts D) (twin : ℕ) (a b : D) (low : twin ≤ 1) (
   may_close false changes closed =
       closed_now g twin (gate_place twin) 0 a b low headers (omega arith) (omega arith) changes (omega arith) closed
 
-  pub close_current : (was_open : Bool)
+  close_current : (was_open : Bool)
       → Changes g (TornWrite (gate_place twin) (length (closing_bytes was_open)) (g.extent a Main)) Main a b
       → MayClose was_open twin (images_of g a Main) → Changes g SameCurrent Main a b
   close_current true changes lower =
@@ -160,7 +160,7 @@ module _ {D : Type 0} (g : Ghosts D) (twin : ℕ) (a b : D) (low : twin ≤ 1) (
 
   module _ (r : Result (Unit {0}) BlockFault)
       (len : IfSome (g.content a Main) (λ (m : List ℕ). length m ≡ g.extent a Main)) where
-    pub close_shut : (was_open : Bool) → WritesHeaders g (gate_place twin) (closing_bytes was_open) a b r
+    close_shut : (was_open : Bool) → WritesHeaders g (gate_place twin) (closing_bytes was_open) a b r
         → MayClose was_open twin (images_of g a Main)
         → OnOk r (IsClosed twin (images_of g b Main))
     close_shut true writes may =
@@ -171,26 +171,39 @@ module _ {D : Type 0} (g : Ghosts D) (twin : ℕ) (a b : D) (low : twin ≤ 1) (
         on_ok r (λ (done : IsWritten g (gate_place twin) [] a b). may_close false writes.alone.images may)
         writes.done
 
+    pub closes : (was_open : Bool) → WritesHeaders g (gate_place twin) (closing_bytes was_open) a b r
+        → MayClose was_open twin (images_of g a Main) → ClosesGate g twin was_open a b r
+    closes was_open writes may = record {
+      writes = writes;
+      closed = close_shut was_open writes may;
+      again = may_close was_open writes.alone.images may;
+      current = close_current was_open writes.alone.images may;
+    }
+
     -- of a gate that opens
     module _ (writes : WritesHeaders g (gate_place twin) (OPEN_GATE ∷ []) a b r) where
-      pub opened : OnOk r (IsOpen twin (images_of g b Main))
+      opened : OnOk r (IsOpen twin (images_of g b Main))
       opened =
           on_ok r (λ (done : IsWritten g (gate_place twin) (OPEN_GATE ∷ []) a b).
           gate_opened twin (g.extent a Main) (images_of g b Main) (g.content a Main) (g.content b Main) low
           headers.extent len done.synced done.written) writes.done
 
-      pub opens_current : IsClosed twin (images_of g a Main) → (header : DbHeader)
+      opens_current : IsClosed twin (images_of g a Main) → (header : DbHeader)
           → Overtakes twin header (images_of g a Main) → Changes g (SameCurrentOr twin header) Main a b
       opens_current closed header next =
           opening_current g twin (gate_place twin) 1 a b low headers (omega arith) (omega arith)
           writes.alone.images (omega arith) header next closed
 
-      pub opens_this : OnOk r ((header : DbHeader) → Overtakes twin header (images_of g a Main)
+      opens_this : OnOk r ((header : DbHeader) → Overtakes twin header (images_of g a Main)
           → HasCurrent twin header (images_of g b Main))
       opens_this =
           on_ok r (λ (open_now : IsOpen twin (images_of g b Main)) header next.
           open_current g twin (gate_place twin) 1 a b low headers (omega arith) (omega arith) writes.alone.images
           (omega arith) header next open_now) opened
+
+      pub opens : IsClosed twin (images_of g a Main) → OpensGate g twin a b r
+      opens closed =
+          record { writes = writes; open_gate = opened; current = opens_current closed; this = opens_this }
 
 -- a write of a twin's body
 module _ {D : Type 0} (g : Ghosts D) (twin : ℕ) (header : DbHeader) (a b : D) (r : Result (Unit {0}) BlockFault)
@@ -202,26 +215,35 @@ module _ {D : Type 0} (g : Ghosts D) (twin : ℕ) (header : DbHeader) (a b : D) 
   in_header : (n : ℕ) → n ≡ BODY_BYTES → header_place twin + n ≤ header_place twin + HEADER_BYTES
   in_header n is = omega (arith, is)
 
-  pub body_shut : IsClosed twin (images_of g a Main) → IsClosed twin (images_of g b Main)
+  body_shut : IsClosed twin (images_of g a Main) → IsClosed twin (images_of g b Main)
   body_shut closed =
       closed_now g twin (header_place twin) (length (body_bytes header)) a b low headers (omega arith)
       (in_header _ (length-body header)) writes.alone.images
       (before_gate _ (length-body header)) closed
 
-  pub body_current : IsClosed twin (images_of g a Main) → Changes g SameCurrent Main a b
+  body_current : IsClosed twin (images_of g a Main) → Changes g SameCurrent Main a b
   body_current closed =
       closed_current g twin (header_place twin) (length (body_bytes header)) a b low headers (omega arith)
       (in_header _ (length-body header)) writes.alone.images
       (before_gate _ (length-body header)) closed
 
   module _ (len : IfSome (g.content a Main) (λ (m : List ℕ). length m ≡ g.extent a Main)) where
-    pub body_left : OnOk r (HasBody twin (body_bytes header) (images_of g b Main))
+    body_left : OnOk r (HasBody twin (body_bytes header) (images_of g b Main))
     body_left =
         on_ok r (λ (done : IsWritten g (header_place twin) (body_bytes header) a b).
         body_is twin (g.extent a Main) (images_of g b Main) (g.content a Main) (g.content b Main) low
         headers.extent len done.synced (body_bytes header) (length-body header) done.written) writes.done
 
-    pub one_body_left : OnOk r (HasOneBody twin (images_of g b Main))
+    one_body_left : OnOk r (HasOneBody twin (images_of g b Main))
     one_body_left = on_ok r
         (λ (has : HasBody twin (body_bytes header) (images_of g b Main)) c d left right. has c left
         ∙ sym (has d right)) body_left
+
+    pub writes_body : IsClosed twin (images_of g a Main) → WritesBody g twin header a b r
+    writes_body closed = record {
+      writes = writes;
+      closed = body_shut closed;
+      body = body_left;
+      one_body = one_body_left;
+      current = body_current closed;
+    }

@@ -6,7 +6,7 @@ use Rattle.std.proofs.Math.ListN.{get_or-append}
 use Rattle.dk_header.specs.declared.header.TheConstants.{HEADER_BYTES, BODY_BYTES, MAIN_FIELDS_END, BODY_FIELDS_END, OPEN_GATE, CLOSED_GATE, VERSION}
 use Rattle.dk_header.specs.declared.header.DbHeader.{DbHeader}
 use Rattle.dk_header.specs.Layout.{main_bytes, body_bytes}
-use Rattle.dk_device.specs.Disk.{overlaid}
+use Rattle.dk_device.specs.Disk.{overlay}
 use Rattle.dk_block_file.specs.Blocks.{first_header, empty_main}
 use Rattle.dk_block_file.specs.Flips.{header_place, gate_place, body_at, gate_at, IsClosed, IsOpen, HasBody}
 use Rattle.dk_block_file.proofs.RangeLemmas.{known, range_inside, byte_written}
@@ -22,24 +22,24 @@ module _ (twin extent : ℕ) (images : List ℕ → Type 0) (old new : Option (L
   length_of : (m : List ℕ) → old ≡ Some m → length m ≡ extent
   length_of m is = subst (λ (o : Option (List ℕ)). IfSome o (λ (m : List ℕ). length m ≡ extent)) is len
 
-  gate_is : (b : ℕ) → new ≡ option_map (overlaid (gate_place twin) (b ∷ [])) old → (c : List ℕ) → images c
+  gate_is : (b : ℕ) → new ≡ option_map (overlay (gate_place twin) (b ∷ [])) old → (c : List ℕ) → images c
       → gate_at twin c ≡ b
   gate_is b written c left =
-      let is = known (overlaid (gate_place twin) (b ∷ [])) old new c written (same c left) in
+      let is = known (overlay (gate_place twin) (b ∷ [])) old new c written (same c left) in
       let within : gate_place twin ≤ length is.0 = omega (arith, length_of is.0 is.1) in
       subst (λ (l : List ℕ). gate_at twin l ≡ b) (sym is.2) (byte_written (gate_place twin) b is.0 within)
 
-  pub gate_shut : new ≡ option_map (overlaid (gate_place twin) (CLOSED_GATE ∷ [])) old → IsClosed twin images
+  pub gate_shut : new ≡ option_map (overlay (gate_place twin) (CLOSED_GATE ∷ [])) old → IsClosed twin images
   gate_shut written c left is_one = absurd (omega (arith, is_one, gate_is CLOSED_GATE written c left))
 
-  pub gate_opened : new ≡ option_map (overlaid (gate_place twin) (OPEN_GATE ∷ [])) old → IsOpen twin images
+  pub gate_opened : new ≡ option_map (overlay (gate_place twin) (OPEN_GATE ∷ [])) old → IsOpen twin images
   gate_opened written c left = gate_is OPEN_GATE written c left
 
   module _ (body : List ℕ) (body_len : length body ≡ BODY_BYTES)
-      (written : new ≡ option_map (overlaid (header_place twin) body) old) where
+      (written : new ≡ option_map (overlay (header_place twin) body) old) where
     pub body_is : HasBody twin body images
     body_is c left =
-        let is = known (overlaid (header_place twin) body) old new c written (same c left) in
+        let is = known (overlay (header_place twin) body) old new c written (same c left) in
         let within : header_place twin ≤ length is.0 = omega (arith, length_of is.0 is.1) in
         subst (λ (l : List ℕ). body_at twin l ≡ body) (sym is.2)
         (range_inside (header_place twin) BODY_BYTES body is.0 body_len within)
@@ -81,11 +81,11 @@ last_byte =
 
 -- after creation twin 1 is closed
 pub second_closed : (images : List ℕ → Type 0) (old new : Option (List ℕ))
-    → new ≡ option_map (overlaid 0 empty_main) old → ((c : List ℕ) → images c → new ≡ Some c) → IsClosed 1 images
+    → new ≡ option_map (overlay 0 empty_main) old → ((c : List ℕ) → images c → new ≡ Some c) → IsClosed 1 images
 second_closed images old new written same c left is_one =
-    let is = known (overlaid 0 empty_main) old new c written (same c left) in
+    let is = known (overlay 0 empty_main) old new c written (same c left) in
     let behind : List ℕ = drop (0 + length empty_main) is.0 in
-    let gate : get_or (overlaid 0 empty_main is.0) (gate_place 1) 0 ≡ 0 =
+    let gate : get_or (overlay 0 empty_main is.0) (gate_place 1) 0 ≡ 0 =
     get_or-append empty_main behind 0 (gate_place 1) (omega (arith, length-empty)) ∙ last_byte in
     let gate_c : get_or c (gate_place 1) 0 ≡ 0 =
     subst (λ (l : List ℕ). get_or l (gate_place 1) 0 ≡ 0) (sym is.2) gate in

@@ -4,7 +4,7 @@ use Rattle.std.proofs.Common.{option_map, sym, ◌∙◌, ap, subst, arith, get_
 use Rattle.std.proofs.lemmas.List.{length-replicate, take_all, take_at, drop_at, drop_all, append-nil, take-append-le, take-take, drop-drop, drop-take, length-take, get_or-drop, get_or_at}
 use Rattle.std.proofs.Math.Seq.{take-append-add}
 use Rattle.dk_header.specs.declared.header.TheConstants.{SUM_BYTES}
-use Rattle.dk_device.specs.Disk.{overlaid}
+use Rattle.dk_device.specs.Disk.{overlay}
 use Rattle.dk_device.specs.ContentIsImage.{back, torn_overlaid}
 use Rattle.dk_block_file.specs.Lending.{with_payload}
 use Rattle.dk_block_file.specs.declared.layout.TheConstants.{BLOCK_BYTES, PAYLOAD_BYTES}
@@ -38,7 +38,7 @@ with_lent n items w is len = replaced n SUM_BYTES PAYLOAD_BYTES items w (omega a
 
 -- the written range reads as it was written
 pub range_inside : (at n : ℕ) (bytes m : List ℕ) → length bytes ≡ n → at ≤ length m
-    → take n (drop at (overlaid at bytes m)) ≡ bytes
+    → take n (drop at (overlay at bytes m)) ≡ bytes
 range_inside at n bytes m len within =
     let behind : List ℕ = drop (at + length bytes) m in
     ap (λ (l : List ℕ). take n (drop at l)) (append_assoc (take at m) bytes behind)
@@ -47,9 +47,9 @@ range_inside at n bytes m len within =
 
 -- what stands before it stays
 pub range_before : (a n at : ℕ) (bytes m : List ℕ) → a + n ≤ at → at ≤ length m
-    → take n (drop a (overlaid at bytes m)) ≡ take n (drop a m)
+    → take n (drop a (overlay at bytes m)) ≡ take n (drop a m)
 range_before a n at bytes m upto within =
-    let new = overlaid at bytes m in
+    let new = overlay at bytes m in
     let is : min at (length m) ≡ at = omega arith in
     let front : take at new ≡ take at m =
     subst (λ (j : ℕ). take j new ≡ take at m) is (torn_overlaid at 0 bytes m).before in
@@ -59,33 +59,33 @@ range_before a n at bytes m upto within =
     ∙ drop-take a n m
 
 -- and what stands behind it
-pub range_behind : (a at : ℕ) (bytes m : List ℕ) → at + length bytes ≤ a → drop a (overlaid at bytes m) ≡ drop a m
+pub range_behind : (a at : ℕ) (bytes m : List ℕ) → at + length bytes ≤ a → drop a (overlay at bytes m) ≡ drop a m
 range_behind a at bytes m past =
-    let new = overlaid at bytes m in
+    let new = overlay at bytes m in
     let e = at + length bytes in
     let is : e + (a - e) ≡ a = omega arith in
     subst (λ (j : ℕ). drop j new ≡ drop j m) is (sym (drop-drop (a - e) e new)
     ∙ ap (λ (l : List ℕ). drop (a - e) l) (back at bytes m) ∙ drop-drop (a - e) e m)
 
 pub byte_behind : (i at : ℕ) (bytes m : List ℕ) → at + length bytes ≤ i
-    → get_or (overlaid at bytes m) i 0 ≡ get_or m i 0
+    → get_or (overlay at bytes m) i 0 ≡ get_or m i 0
 byte_behind i at bytes m past =
-    let new = overlaid at bytes m in
+    let new = overlay at bytes m in
     let is : i + 0 ≡ i = omega arith in
     subst (λ (j : ℕ). get_or new j 0 ≡ get_or m j 0) is (sym (get_or-drop i new 0 0)
     ∙ ap (λ (l : List ℕ). get_or l 0 0) (range_behind i at bytes m past) ∙ get_or-drop i m 0 0)
 
-pub byte_written : (at b : ℕ) (m : List ℕ) → at ≤ length m → get_or (overlaid at (b ∷ []) m) at 0 ≡ b
+pub byte_written : (at b : ℕ) (m : List ℕ) → at ≤ length m → get_or (overlay at (b ∷ []) m) at 0 ≡ b
 byte_written at b m within =
     ap (λ (l : List ℕ). get_or l at 0) (append_assoc (take at m) (b ∷ []) (drop (at + 1) m))
     ∙ get_or_at (take at m) b (drop (at + 1) m) 0 at (omega (arith, length-take at m))
 
 -- nothing written leaves all as it was
-pub nothing_written : (i at : ℕ) (m : List ℕ) → at ≤ i → get_or (overlaid at [] m) i 0 ≡ get_or m i 0
+pub nothing_written : (i at : ℕ) (m : List ℕ) → at ≤ i → get_or (overlay at [] m) i 0 ≡ get_or m i 0
 nothing_written i at m past = byte_behind i at [] m (omega arith)
 
 -- a file without bytes is what was written
-pub all_written : (bytes m : List ℕ) → length m ≡ 0 → overlaid 0 bytes m ≡ bytes
+pub all_written : (bytes m : List ℕ) → length m ≡ 0 → overlay 0 bytes m ≡ bytes
 all_written bytes m none =
     ap (λ (l : List ℕ). bytes ++ l) (drop_all (0 + length bytes) m (omega arith)) ∙ append-nil bytes
 
@@ -96,13 +96,13 @@ known f None new c is told = absurd cc
 known f (Some m) new c is told = (m, refl, cc)
 
 pub told_fresh : (bytes : List ℕ) (old mid new : Option (List ℕ)) → mid ≡ option_map (take 0) old
-    → new ≡ option_map (overlaid 0 bytes) mid → IfSome new (λ (w : List ℕ). w ≡ bytes)
+    → new ≡ option_map (overlay 0 bytes) mid → IfSome new (λ (w : List ℕ). w ≡ bytes)
 told_fresh bytes None mid new cut written = rw (written, cut) tt
 told_fresh bytes (Some m) mid new cut written =
     rw (written, cut) (all_written bytes (take 0 m) (omega (arith, length-take 0 m)))
 
 pub told_whole : (bytes : List ℕ) (old new : Option (List ℕ)) → IfSome old (λ (m : List ℕ). length m ≡ 0)
-    → new ≡ option_map (overlaid 0 bytes) old → IfSome new (λ (w : List ℕ). w ≡ bytes)
+    → new ≡ option_map (overlay 0 bytes) old → IfSome new (λ (w : List ℕ). w ≡ bytes)
 told_whole bytes None new none written = rw written tt
 told_whole bytes (Some m) new none written = rw written (all_written bytes m none)
 

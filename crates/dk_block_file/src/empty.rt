@@ -2,10 +2,10 @@
 ghost use Rattle.std.specs.Prelude.{◌≡◌, ◌⊎◌, ◌≤◌, ◌++◌, ◌∷◌, [], max, replicate, Err, IfOk, IfErr, IfSome, OnOk, OnErr};
 ghost use Rattle.std.proofs.Common.{option_map};
 ghost use Rattle.dk_fault.specs.Causes.{HasCause, HasCauseIf};
-ghost use Rattle.dk_device.specs.Disk.{overlaid};
+ghost use Rattle.dk_device.specs.Disk.{overlay};
 ghost use Rattle.dk_device.specs.declared.device.FileId.TheVariants.{Main, Wal};
 ghost use Rattle.dk_block_file.specs.Blocks.{empty_main, FrontOrHeader};
-ghost use Rattle.dk_block_file.specs.Effects.{IsCreated, HasNewLog, WritesFiles, MakesWithMemory};
+ghost use Rattle.dk_block_file.specs.Effects.{Creates, HasNewLog, WritesFiles, MakesWithMemory};
 ghost use Rattle.dk_block_file.specs.Calls.{log_creation, creation};
 ghost use Rattle.dk_device.specs.Calls.{Makes};
 ghost use Rattle.dk_device.specs.Changes.{Earlier, ChangesAlone};
@@ -70,9 +70,7 @@ fn create_files<D: Disk>(disk: &mut D, main: &[u8]) -> Result<(), Failed>
 
 /// Makes the empty database, in six calls of the disk: a log without records first, and then the headers.
 pub fn create<D: Disk>(alloc: Global, disk: &mut D) -> Result<(), BlockFault>
-    ensures created { OnOk result (IsCreated D.Disk disk.old disk.new) }
-    ensures no_shorter { D.extent disk.old Main ≤ D.extent disk.new Main }
-    ensures earlier { Earlier D.Disk disk.old disk.new }
+    ensures creates { Creates D.Disk disk.old disk.new result }
     ensures calls { MakesWithMemory D.Disk creation disk.old disk.new result }
     ensures faults { IfErr result
         (λ e. (e ≡ BlockFault.DiskFault) ⊎ (e ≡ BlockFault.OutOfMemory)) }

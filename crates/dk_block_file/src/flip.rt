@@ -1,13 +1,10 @@
 //! The writes that flip a twin's header.
-ghost use Rattle.std.specs.Prelude.{◌≡◌, ◌≤◌, ◌+◌, ◌∷◌, [], length, OnOk, if◌then◌else◌};
+ghost use Rattle.std.specs.Prelude.{◌≡◌, ◌≤◌, ◌+◌, [], length, if◌then◌else◌};
 ghost use Rattle.dk_device.specs.declared.device.FileId.TheVariants.{Main};
-ghost use Rattle.dk_device.specs.Changes.{images_of, Changes};
-ghost use Rattle.dk_header.specs.declared.header.DbHeader.{DbHeader};
-ghost use Rattle.dk_header.specs.Layout.{body_bytes};
-ghost use Rattle.dk_block_file.specs.Current.{HasHeaders, Overtakes, HasCurrent, SameCurrent, SameCurrentOr};
-ghost use Rattle.dk_block_file.specs.Effects.{FailsByDisk, WritesHeaders};
-ghost use Rattle.dk_block_file.specs.Flips.{header_place, gate_place, IsClosed, IsOpen, HasBody, HasOneBody};
-ghost use Rattle.dk_block_file.specs.Flips.{MayClose, closing_bytes};
+ghost use Rattle.dk_device.specs.Changes.{images_of};
+ghost use Rattle.dk_block_file.specs.Current.{HasHeaders};
+ghost use Rattle.dk_block_file.specs.Effects.{FailsByDisk, WritesHeaders, ClosesGate, WritesBody, OpensGate};
+ghost use Rattle.dk_block_file.specs.Flips.{gate_place, IsClosed, HasOneBody, MayClose};
 
 use crate::BlockFault;
 use crate::layout::{HEADERS_BYTES, gate_place, header_place};
@@ -49,11 +46,7 @@ pub fn flip_close<D: Disk>(disk: &mut D, twin: u8, was_open: bool) -> Result<(),
     requires twin { twin ≤ 1 }
     requires headers { HasHeaders D.Disk disk.old }
     requires lower { MayClose was_open twin (images_of D.Disk disk.old Main) }
-    ensures writes { WritesHeaders D.Disk
-        (gate_place twin) (closing_bytes was_open) disk.old disk.new result }
-    ensures closed { OnOk result (IsClosed twin (images_of D.Disk disk.new Main)) }
-    ensures again { MayClose was_open twin (images_of D.Disk disk.new Main) }
-    ensures current { Changes D.Disk SameCurrent Main disk.old disk.new }
+    ensures closes { ClosesGate D.Disk twin was_open disk.old disk.new result }
     ensures cause { FailsByDisk (D.faults disk.old) (D.faults disk.new) result }
 {
     write_gate(disk, twin, bytes_if(was_open, &[CLOSED_GATE]))
@@ -64,13 +57,7 @@ pub fn flip_body<D: Disk>(disk: &mut D, twin: u8, header: &DbHeader) -> Result<(
     requires twin { twin ≤ 1 }
     requires headers { HasHeaders D.Disk disk.old }
     requires closed { IsClosed twin (images_of D.Disk disk.old Main) }
-    ensures writes { WritesHeaders D.Disk
-        (header_place twin) (body_bytes header.now) disk.old disk.new result }
-    ensures closed { IsClosed twin (images_of D.Disk disk.new Main) }
-    ensures body { OnOk result
-        (HasBody twin (body_bytes header.now) (images_of D.Disk disk.new Main)) }
-    ensures one_body { OnOk result (HasOneBody twin (images_of D.Disk disk.new Main)) }
-    ensures current { Changes D.Disk SameCurrent Main disk.old disk.new }
+    ensures writes { WritesBody D.Disk twin header.now disk.old disk.new result }
     ensures cause { FailsByDisk (D.faults disk.old) (D.faults disk.new) result }
 {
     let body = body_of(header);
@@ -83,14 +70,7 @@ pub fn flip_open<D: Disk>(disk: &mut D, twin: u8) -> Result<(), BlockFault>
     requires headers { HasHeaders D.Disk disk.old }
     requires closed { IsClosed twin (images_of D.Disk disk.old Main) }
     requires body { HasOneBody twin (images_of D.Disk disk.old Main) }
-    ensures writes { WritesHeaders D.Disk
-        (gate_place twin) (OPEN_GATE ∷ []) disk.old disk.new result }
-    ensures open { OnOk result (IsOpen twin (images_of D.Disk disk.new Main)) }
-    ensures current { (header : DbHeader) → Overtakes twin header (images_of D.Disk disk.old Main) →
-        Changes D.Disk (SameCurrentOr twin header) Main disk.old disk.new }
-    ensures this { OnOk result ((header : DbHeader) →
-        Overtakes twin header (images_of D.Disk disk.old Main) →
-        HasCurrent twin header (images_of D.Disk disk.new Main)) }
+    ensures opens { OpensGate D.Disk twin disk.old disk.new result }
     ensures cause { FailsByDisk (D.faults disk.old) (D.faults disk.new) result }
 {
     write_gate(disk, twin, &[OPEN_GATE])

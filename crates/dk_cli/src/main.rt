@@ -6,7 +6,7 @@
 #![tactic(auto)]
 
 use dk_device::MemoryDisk;
-use dk_io::{NoPause, StdSink, StdSource};
+use dk_io::{NoPause, StdStream};
 use dk_script::serve::serve;
 use dk_types::Status;
 use std::alloc::AllocError;
@@ -17,8 +17,8 @@ use std::process::ExitCode;
 /// Carries out a command on a database in memory.
 fn command(rt: &HostRuntime, words: &[String]) -> Status {
     let alloc = rt.alloc();
-    let mut source = StdSource::new(rt.reader());
-    let mut sink = StdSink::new(io::writer(rt));
+    let mut source = StdStream::source(rt.reader());
+    let mut sink = StdStream::sink(io::writer(rt));
     let disk = MemoryDisk::new(Vec::new(alloc), Vec::new(alloc), Vec::new(alloc));
     let (status, _disk) = serve(alloc, words, &mut source, &mut sink, disk, &NoPause);
     status

@@ -4,6 +4,7 @@ use Rattle.std.proofs.Common.{inl, inr, subst}
 use Rattle.dk_device.specs.declared.calls.DiskCall.{DiskCall}
 use Rattle.dk_device.specs.Disk.{next_moment, with_call, call_at}
 use Rattle.dk_device.specs.declared.device.Disk.{Ghosts}
+use Rattle.dk_device.specs.Effects.{Lists}
 use Rattle.dk_device.specs.Calls.{Call, Did, Stopped, Makes}
 
 pub did_one : (call : Call) (b n : ℕ) (old new : Option (List DiskCall)) → n ≡ next_moment b
@@ -47,10 +48,6 @@ stopped_then (x ∷ xs) ys b m n old mid new first second =
 pub on_err : {T F : Type 0} {P : Type 0} (r : Result T F) → P → OnErr r P
 on_err (Ok x) p = tt
 on_err (Err e) p = p
-
-pub swapped : {A B : Type 0} → A ⊎ B → B ⊎ A
-swapped (inl a) = inr a
-swapped (inr b) = inl b
 
 -- what is known of the list behind a call that failed: it may leave the call out
 abbrev pub Tried : Call → ℕ → Option (List DiskCall) → Option (List DiskCall) → Type 0
@@ -107,20 +104,15 @@ makes_both g xs ys a b c v first second = record {
   failed = tt;
 }
 
--- what a list may leave out of a call that failed, where more is known of it then
-pub err_tried : {T E : Type 0} (A B P Q : Type 0) (r : Result T E) → OnErr r (A ⊎ (B × P × Q)) → OnErr r (A ⊎ B)
-err_tried A B P Q (Ok v) h = tt
-err_tried A B P Q (Err e) (inl is) = inl is
-err_tried A B P Q (Err e) (inr is) = inr is.0
+-- what a call that failed left of the list
+pub tried : (A B P : Type 0) → A ⊎ (B × P) → A ⊎ B
+tried A B P (inl is) = inl is
+tried A B P (inr is) = inr is.0
 
--- one call
+-- one call, as it stands in the list
 pub makes_one : {D T E : Type 0} (g : Ghosts D) (x : Call) (old new : D) (r : Result T E)
     → g.time new ≡ next_moment (g.time old)
-    → OnOk r (g.calls new ≡ with_call (call_at (g.time old) x.0 x.1 true) (g.calls old))
-    → OnErr r (Tried x (g.time old) (g.calls old) (g.calls new)) → Makes g (x ∷ []) old new r
-makes_one g x old new (Ok v) time called tried = record { done = (time, called); failed = tt }
-makes_one g x old new (Err e) time called tried = record { done = tt; failed = inl (time, tried) }
-
-pub err_swapped : {T E : Type 0} (A B : Type 0) (r : Result T E) → OnErr r (A ⊎ B) → OnErr r (B ⊎ A)
-err_swapped A B (Ok v) h = tt
-err_swapped A B (Err e) h = swapped h
+    → Lists g.content g.extent g.time g.may_leave g.calls x.0 x.1 old new r → Makes g (x ∷ []) old new r
+makes_one g x old new (Ok v) time lists = record { done = (time, lists.done); failed = tt }
+makes_one g x old new (Err e) time lists =
+    record { done = tt; failed = inl (time, tried _ _ _ lists.failed) }

@@ -1,11 +1,12 @@
 -- A file is changed by several calls, one after the other.
-use Rattle.std.specs.Prelude.{◌≡◌, ◌⊎◌, ◌↔◌, ℕ, ◌+◌, ◌-◌, ◌<◌, ◌≤◌, min, List, length, take, drop, get_or, refl}
+use Rattle.std.specs.Prelude.{◌≡◌, ◌⊎◌, ◌↔◌, ℕ, ◌+◌, ◌-◌, ◌<◌, ◌≤◌, min, List, length, take, drop, get_or, Result, refl}
 use Rattle.std.proofs.Common.{inl, inr, sym, ◌∙◌, ap, subst, arith, length-drop}
 use Rattle.std.proofs.lemmas.Bool.{cases_lt}
 use Rattle.std.proofs.lemmas.List.{length-take, take_all, take_min, get_or-take, get_or-drop, ext_get_or}
 use Rattle.dk_device.specs.declared.device.Disk.{Ghosts}
 use Rattle.dk_device.specs.declared.device.FileId.{FileId}
 use Rattle.dk_device.specs.Disk.{TornWrite, TornCut, Follows, MayHappen, LeavesOther, Elapses, SameFiles, SameImages, other}
+use Rattle.dk_device.specs.Effects.{KeepsAll, Settles}
 use Rattle.dk_device.specs.Changes.{images_of, IsSynced, Earlier, Changes, ChangesAlone, Looks, SamePlaces, KeepsPlaces}
 
 iff_then : {A B C : Type 0} → A ↔ B → B ↔ C → A ↔ C
@@ -140,6 +141,11 @@ module _ {D : Type 0} (g : Ghosts D) where
   looks_one a b content extent images time =
       record { content = content; extent = extent; images = images; earlier = earlier_one a b time }
 
+  -- a read
+  pub looks_read : (a b : D) → KeepsAll g.content g.extent g.time g.may_leave a b
+      → Elapses (g.time a) (g.time b) (g.may_leave a) (g.may_leave b) → Looks g a b
+  looks_read a b same time = looks_one a b same.content same.extent same.images time
+
   -- no call
   pub looks_none : (a : D) → Looks g a a
   looks_none a = record {
@@ -174,6 +180,12 @@ module _ {D : Type 0} (g : Ghosts D) where
     extent = extent (other file) ∙ first.extent;
     images = changes_synced S file a b c first.images (changes_by_sync file b c time crash left);
   }
+
+  pub alone_settled : {T E : Type 0} {r : Result T E} (S : Step) (file : FileId) (a b c : D)
+      → ChangesAlone g S file a b → Settles g.content g.extent g.time g.may_leave file b c r
+      → Elapses (g.time b) (g.time c) (g.may_leave b) (g.may_leave c) → ChangesAlone g S file a c
+  alone_settled S file a b c first settles time =
+      alone_synced S file a b c first settles.content settles.extent time settles.crash settles.other_images
 
   pub keeps_then : (kept : ℕ → Type 0) (file : FileId) (a b c : D) → KeepsPlaces g kept file a b
       → KeepsPlaces g kept file b c → KeepsPlaces g kept file a c
@@ -210,13 +222,14 @@ module _ {D : Type 0} (g : Ghosts D) (file : FileId) (a b : D)
     (beside : LeavesOther file (g.content a) (g.content b) (g.extent a) (g.extent b) (g.may_leave a (g.time a))
     (g.may_leave b (g.time b)))
     (time : Elapses (g.time a) (g.time b) (g.may_leave a) (g.may_leave b)) where
-  pub write_alone : (at n : ℕ)
-      → MayHappen (TornWrite at n (g.extent a file)) (images_of g a file) (images_of g b file)
+  pub write_alone : {T E : Type 0} {r : Result T E} (at n : ℕ)
+      → MayHappen (TornWrite at n (g.extent a file)) r (images_of g a file) (images_of g b file)
       → ChangesAlone g (TornWrite at n (g.extent a file)) file a b
   write_alone at n crash = alone_one g (TornWrite at n (g.extent a file)) file a b
       (torn_same at n (g.extent a file)) beside time crash.follows
 
-  pub cut_alone : (len : ℕ) → MayHappen (TornCut len) (images_of g a file) (images_of g b file)
+  pub cut_alone : {T E : Type 0} {r : Result T E} (len : ℕ)
+      → MayHappen (TornCut len) r (images_of g a file) (images_of g b file)
       → ChangesAlone g (TornCut len) file a b
   cut_alone len crash = alone_one g (TornCut len) file a b (cut_same len) beside time crash.follows
 

@@ -9,7 +9,7 @@ use Rattle.dk_device.specs.declared.calls.Request.{Request}
 use Rattle.dk_device.specs.declared.calls.Request.TheVariants.{Read, Write, Cut, Sync}
 use Rattle.dk_device.specs.declared.image.Choice.{Choice}
 use Rattle.dk_device.specs.declared.image.Choice.TheVariants.{Kept, Lost, Torn}
-use Rattle.dk_device.specs.Disk.{overlaid, TornWrite, TornCut}
+use Rattle.dk_device.specs.Disk.{overlay, TornWrite, TornCut}
 use Rattle.dk_device.specs.Image.{written_by, cut_by, image_by, image_if, image_after, image_of}
 use Rattle.dk_device.specs.ContentIsImage.{torn_overlaid, torn_take}
 use Rattle.dk_device.specs.Memory.{MemoryState, IsInTime}
@@ -22,7 +22,7 @@ torn_write : (choice : Choice) (at extent : ℕ) (bytes d : List ℕ)
 torn_write Kept at extent bytes d = torn_overlaid at extent bytes d
 torn_write Lost at extent bytes d = torn_same at (length bytes) extent d
 torn_write (Torn byte) at extent bytes d =
-    subst (λ n. TornWrite at n extent d (overlaid at (replicate (length bytes) byte) d))
+    subst (λ n. TornWrite at n extent d (overlay at (replicate (length bytes) byte) d))
     (length-replicate (length bytes) byte) (torn_overlaid at extent (replicate (length bytes) byte) d)
 
 torn_cut : (choice : Choice) (len : ℕ) (d : List ℕ) → TornCut len d (cut_by choice len d)

@@ -1,17 +1,20 @@
 -- What the caller of a call sees of it.
-use Rattle.std.specs.Prelude.{◌≡◌, ◌⊎◌, ◌↔◌, ℕ, ◌+◌, ◌<◌, ◌≤◌, max, Bool, true, false, List, length, Result, Ok, Err, is_ok, IsErr, Some, OnOk, OnErr, refl}
+use Rattle.std.specs.Prelude.{◌≡◌, ◌⊎◌, ◌↔◌, ℕ, ◌+◌, ◌<◌, ◌≤◌, max, Bool, true, false, List, length, Result, Ok, Err, is_ok, IsErr, Option, Some, OnOk, OnErr, refl}
 use Rattle.std.proofs.Common.{inl, inr, ⊎_elim, sym, ◌∙◌, ap, subst, arith}
-use Rattle.std.proofs.lemmas.List.{length-take}
+use Rattle.std.proofs.lemmas.List.{length-take, length-take-le}
 use Rattle.dk_fault.specs.declared.failed.Failed.{Failed}
 use Rattle.dk_device.specs.declared.device.FileId.{FileId}
 use Rattle.dk_device.specs.declared.device.FileId.TheVariants.{Main, Wal}
 use Rattle.dk_device.specs.declared.calls.Request.{Request}
 use Rattle.dk_device.specs.declared.calls.Request.TheVariants.{Read, Write, Cut, Sync}
-use Rattle.dk_device.specs.Disk.{overlaid, other, SameImages, SameFiles, Elapses, Follows, MayHappen, Allows, LeavesOther}
+use Rattle.dk_device.specs.declared.calls.DiskCall.{DiskCall}
+use Rattle.dk_device.specs.Disk.{overlay, other, SameImages, SameFiles, Elapses, Follows, MayHappen, Allows, LeavesOther}
+use Rattle.dk_device.specs.Effects.{KeepsAll, Writes, Cuts, Settles, Lists, HasReason, MakesCall}
 use Rattle.dk_device.specs.declared.device.TheConstants.{LAST_MOMENT, MOST_BYTES}
 use Rattle.dk_device.specs.ContentIsImage.{length-overlaid, content_is_left}
 use Rattle.dk_device.specs.Memory.{MemoryState, IsInTime, Performs, Reason}
 use Rattle.dk_device.specs.Replay.{History, MayLeaveIf, MayLeaveBy, effect, content_of, MayLeaveAt, after_call, after_unlisted_call}
+use Rattle.dk_device.proofs.ChangeLemmas.{torn_same, cut_same}
 use Rattle.dk_device.proofs.StepLemmas.{Now, follows, allows, other_images, content_called, other_content, elapses_called, same_images, same_content, elapses_unlisted}
 
 -- in the list, done or not, or not in it
@@ -180,9 +183,12 @@ stays file request (Err e) h h' went here c left =
 pub may_happen : (file : FileId) (request : Request) (r : Result (Unit {0}) Failed) (h h' : History)
     → Performs file request r h h'
     → ((d : List ℕ) → MayLeaveBy request (content_of h file) d d)
-    → MayHappen (MayLeaveBy request (content_of h file)) (Now h file) (Now h' file)
-may_happen file request r h h' went here =
-    record { follows = crashes file request r h h' went here; not_done = stays file request r h h' went here }
+    → MayHappen (MayLeaveBy request (content_of h file)) r (Now h file) (Now h' file)
+may_happen file request r h h' went here = record {
+  follows = crashes file request r h h' went here;
+  not_done = stays file request r h h' went here;
+  allows = allowed file request r h h' went;
+}
 
 pub on_ok : {T E P Q : Type 0} (r : Result T E) → (P → Q) → OnOk r P → OnOk r Q
 on_ok (Ok x) f p = f p
@@ -190,7 +196,7 @@ on_ok (Err e) f p = tt
 
 -- lengths
 pub grown : (at : ℕ) (bytes d : List ℕ) → at ≤ length d
-    → length (overlaid at bytes d) ≡ max (length d) (at + length bytes)
+    → length (overlay at bytes d) ≡ max (length d) (at + length bytes)
 grown at bytes d le = omega (arith, length-overlaid at bytes d, le)
 
 pub write_length : (file : FileId) (at : ℕ) (bytes : List ℕ) (r : Result (Unit {0}) Failed) (h h' : History)
@@ -215,33 +221,120 @@ cut_length file len (Err e) h h' went le =
     let is = ap length (failed_file file (Cut len) h h' went.not_done) in
     (omega (arith, is), omega (arith, is))
 
-pub same_length : (h h' : History) → SameFiles (content_of h) (content_of h')
-    → SameFiles (λ f. length (content_of h f)) (λ f. length (content_of h' f))
-same_length h h' same f = ap length (same f)
+-- what a disk in memory means
+abbrev pub read : MemoryState → FileId → Option (List ℕ)
+read s f = Some (content_of s.history f)
 
-pub same_told : (h h' : History) → SameFiles (content_of h) (content_of h')
-    → SameFiles (λ f. Some (content_of h f)) (λ f. Some (content_of h' f))
-same_told h h' same f = ap Some (same f)
+abbrev pub len : MemoryState → FileId → ℕ
+len s f = length (content_of s.history f)
+
+abbrev pub time : MemoryState → ℕ
+time s = s.history.moment
+
+abbrev pub left : MemoryState → ℕ → FileId → List ℕ → Type 0
+left s = MayLeaveAt s.history
+
+abbrev pub calls : MemoryState → Option (List DiskCall)
+calls s = Some s.history.calls
+
+keeps : (s s' : MemoryState) → SameFiles (content_of s.history) (content_of s'.history)
+    → SameImages (Now s.history) (Now s'.history) → KeepsAll read len time left s s'
+keeps s s' same images =
+    record { content = λ f. ap Some (same f); extent = λ f. ap length (same f); images = images }
+
+-- a call that failed keeps all
+pub failed_keeps : (file : FileId) (request : Request) (r : Result (Unit {0}) Failed) (s s' : MemoryState)
+    → Performs file request r s.history s'.history → OnErr r (KeepsAll read len time left s s')
+failed_keeps file request (Ok u) s s' went = tt
+failed_keeps file request (Err e) s s' went =
+    keeps s s' (failed_content file request (Err e) s.history s'.history went)
+    (failed_left file request (Err e) s.history s'.history went)
+
+-- so does a read
+pub read_keeps : (file : FileId) (at n : ℕ) (r : Result (Unit {0}) Failed) (s s' : MemoryState)
+    → Performs file (Read at n) r s.history s'.history → KeepsAll read len time left s s'
+read_keeps file at n r s s' went =
+    keeps s s' (read_content file at n r s.history s'.history went) (read_left file at n r s.history s'.history went)
+
+-- the call in the list
+lists : (file : FileId) (request : Request) (r : Result (Unit {0}) Failed) (s s' : MemoryState)
+    → Performs file request r s.history s'.history → Lists read len time left calls file request s s' r
+lists file request (Ok u) s s' went =
+    record { done = ap (λ (h : History). Some h.calls) went.done; failed = tt }
+lists file request (Err e) s s' went = record {
+  done = tt;
+  failed = elim went.not_done [
+    | inl is ↦ inl (ap (λ (h : History). Some h.calls) is)
+    | inr is ↦ inr (ap (λ (h : History). Some h.calls) is, failed_keeps file request (Err e) s s' went)
+  ];
+}
 
 -- a write that would pass the end does nothing
-pub too_far : (file : FileId) (at : ℕ) (bytes : List ℕ) (r : Result (Unit {0}) Failed) (s s' : MemoryState)
+too_far : (file : FileId) (at : ℕ) (bytes : List ℕ) (r : Result (Unit {0}) Failed) (s s' : MemoryState)
     → Performs file (Write at bytes) r s.history s'.history → Reason s (Write at bytes) (is_ok r) s'
-    → MOST_BYTES < at + length bytes
-    → IsErr r × SameFiles (λ f. Some (content_of s.history f)) (λ f. Some (content_of s'.history f))
-    × SameFiles (λ f. length (content_of s.history f)) (λ f. length (content_of s'.history f))
-    × SameImages (Now s.history) (Now s'.history)
+    → MOST_BYTES < at + length bytes → IsErr r × KeepsAll read len time left s s'
 too_far file at bytes (Ok u) s s' went told far = absurd (told.2 far)
-too_far file at bytes (Err e) s s' went told far =
-    let same = failed_content file (Write at bytes) (Err e) s.history s'.history went in (
-      refl,
-      same_told s.history s'.history same,
-      same_length s.history s'.history same,
-      failed_left file
-          (Write at bytes) (Err e) s.history s'.history went,
-    )
+too_far file at bytes (Err e) s s' went told far = (refl, failed_keeps file (Write at bytes) (Err e) s s' went)
+
+pub writes : (file : FileId) (at : ℕ) (bytes : List ℕ) (r : Result (Unit {0}) Failed) (s s' : MemoryState)
+    → Performs file (Write at bytes) r s.history s'.history → Reason s (Write at bytes) (is_ok r) s'
+    → at ≤ length (content_of s.history file) → Writes read len time left file at bytes s s' r
+writes file at bytes r s s' went told le =
+    let done = done_content file (Write at bytes) r s.history s'.history went in
+    let bounds = write_length file at bytes r s.history s'.history went le in
+    record {
+      written = on_ok r (λ is. ap Some is) done;
+      grown = on_ok r (λ is. ap length is ∙ grown at bytes (content_of s.history file) le) done;
+      no_shorter = bounds.0;
+      no_longer = bounds.1;
+      too_far = too_far file at bytes r s s' went told;
+      crash = may_happen file (Write at bytes) r s.history s'.history went
+          (torn_same at (length bytes) (length (content_of s.history file)));
+      other_file = other_stays file (Write at bytes) r s.history s'.history went;
+    }
+
+pub cuts : (file : FileId) (front : ℕ) (r : Result (Unit {0}) Failed) (s s' : MemoryState)
+    → Performs file (Cut front) r s.history s'.history → front ≤ length (content_of s.history file)
+    → Cuts read len time left file front s s' r
+cuts file front r s s' went le =
+    let done = done_content file (Cut front) r s.history s'.history went in
+    let bounds = cut_length file front r s.history s'.history went le in
+    record {
+      cut = on_ok r (λ is. ap Some is) done;
+      shrunk = on_ok r (λ is. ap length is ∙ length-take-le front (content_of s.history file) le) done;
+      no_shorter = bounds.0;
+      no_longer = bounds.1;
+      crash = may_happen file (Cut front) r s.history s'.history went (cut_same front);
+      other_file = other_stays file (Cut front) r s.history s'.history went;
+    }
+
+pub settles : (file : FileId) (r : Result (Unit {0}) Failed) (s s' : MemoryState)
+    → Performs file Sync r s.history s'.history → Settles read len time left file s s' r
+settles file r s s' went =
+    let same = sync_content file r s.history s'.history went in
+    record {
+      durable = sync_durable file r s.history s'.history went;
+      content = λ f. ap Some (same f);
+      extent = λ f. ap length (same f);
+      crash = sync_left file r s.history s'.history went;
+      other_images = other_left file Sync r s.history s'.history went;
+    }
 
 -- at the last moment no call is done
-pub at_end : (request : Request) (r : Result (Unit {0}) Failed) (s s' : MemoryState)
+at_end : (request : Request) (r : Result (Unit {0}) Failed) (s s' : MemoryState)
     → Reason s request (is_ok r) s' → LAST_MOMENT ≤ s.history.moment → IsErr r
 at_end request (Ok u) s s' told ended = absurd (omega (arith, told.0, ended))
 at_end request (Err e) s s' told ended = refl
+
+has_reason : (request : Request) (r : Result (Unit {0}) Failed) (s s' : MemoryState)
+    → Reason s request (is_ok r) s' → HasReason (Reason s request (is_ok r) s') s.history.moment r
+has_reason request r s s' told = record { reason = told; ended = at_end request r s s' told }
+
+pub makes_call : (file : FileId) (request : Request) (r : Result (Unit {0}) Failed) (s s' : MemoryState)
+    → Performs file request r s.history s'.history → Reason s request (is_ok r) s'
+    → MakesCall read len time left calls Reason file request s s' r
+makes_call file request r s s' went told = record {
+  time = elapses file request r s.history s'.history went;
+  calls = lists file request r s s' went;
+  reason = has_reason request r s s' told;
+}

@@ -3,7 +3,7 @@ use Rattle.std.specs.Prelude.{◌≡◌, ℕ, ◌+◌, min, List, ◌++◌, leng
 use Rattle.std.proofs.Common.{inl, inr, sym, ◌∙◌, ap, arith}
 use Rattle.std.proofs.lemmas.Bool.{cases_lt}
 use Rattle.std.proofs.lemmas.List.{take_min, drop_all}
-use Rattle.dk_device.specs.Disk.{overlaid}
+use Rattle.dk_device.specs.Disk.{overlay}
 
 drop_far : (at n : ℕ) (d : List ℕ) → drop (min at (length d) + n) d ≡ drop (at + n) d
 drop_far at n d = elim (cases_lt (length d) at) [
@@ -11,7 +11,7 @@ drop_far at n d = elim (cases_lt (length d) at) [
   | inr long ↦ let same : min at (length d) ≡ at = omega arith in ap (λ m. drop (m + n) d) same
 ]
 
-pub overlaid_min : (at : ℕ) (bytes d : List ℕ) → overlaid (min at (length d)) bytes d ≡ overlaid at bytes d
+pub overlaid_min : (at : ℕ) (bytes d : List ℕ) → overlay (min at (length d)) bytes d ≡ overlay at bytes d
 overlaid_min at bytes d =
     ap (λ (l : List ℕ). l ++ bytes ++ drop (min at (length d) + length bytes) d) (take_min at d)
     ∙ ap (λ (l : List ℕ). take at d ++ bytes ++ l) (drop_far at (length bytes) d)

@@ -8,21 +8,21 @@ use Rattle.dk_device.specs.declared.device.FileId.TheVariants.{Main, Wal}
 use Rattle.dk_device.specs.declared.calls.DiskCall.{DiskCall}
 use Rattle.dk_device.specs.declared.calls.Request.{Request}
 use Rattle.dk_device.specs.declared.calls.Request.TheVariants.{Read, Write, Cut, Sync}
-use Rattle.dk_device.specs.Disk.{overlaid, TornWrite, TornCut}
+use Rattle.dk_device.specs.Disk.{overlay, TornWrite, TornCut}
 use Rattle.dk_device.specs.Replay.{History, MayLeaveOf, MayLeaveIf, MayLeaveBy, effect_on, effect_if, MayLeaveAfter, content_after, content_of, MayLeaveAt, start_of, calls_before}
 
 pub length-overlaid : (at : ℕ) (bytes d : List ℕ) →
-    length (overlaid at bytes d) ≡ min at (length d) + length bytes + (length d - (at + length bytes))
+    length (overlay at bytes d) ≡ min at (length d) + length bytes + (length d - (at + length bytes))
 length-overlaid at bytes d =
     length-append (take at d ++ bytes) (drop (at + length bytes) d)
     ∙ ap (λ n. n + length (drop (at + length bytes) d))
     (length-append (take at d) bytes ∙ ap (λ n. n + length bytes) (length-take at d))
     ∙ ap (λ n. min at (length d) + length bytes + n) (length-drop (at + length bytes) d)
 
-pub back : (at : ℕ) (bytes d : List ℕ) → drop (at + length bytes) (overlaid at bytes d) ≡ drop (at + length bytes) d
+pub back : (at : ℕ) (bytes d : List ℕ) → drop (at + length bytes) (overlay at bytes d) ≡ drop (at + length bytes) d
 back at bytes d = elim (cases_lt (length d) at) [
   | inl short ↦
-      drop_all (at + length bytes) (overlaid at bytes d) (omega (arith, length-overlaid at bytes d))
+      drop_all (at + length bytes) (overlay at bytes d) (omega (arith, length-overlaid at bytes d))
       ∙ sym (drop_all (at + length bytes) d (omega arith))
   | inr long ↦
       drop_at (take at d ++ bytes) (drop (at + length bytes) d) (at + length bytes)
@@ -30,7 +30,7 @@ back at bytes d = elim (cases_lt (length d) at) [
 ]
 
 -- a write that is done is one of its outcomes
-pub torn_overlaid : (at extent : ℕ) (bytes d : List ℕ) → TornWrite at (length bytes) extent d (overlaid at bytes d)
+pub torn_overlaid : (at extent : ℕ) (bytes d : List ℕ) → TornWrite at (length bytes) extent d (overlay at bytes d)
 torn_overlaid at extent bytes d = record {
   before =
       ap (λ (l : List ℕ). take (min at (length d)) l) (append_assoc (take at d) bytes (drop (at + length bytes) d))

@@ -1,5 +1,5 @@
 -- What the calls of a disk do to its two files, and what a crash may leave of each.
-use Rattle.std.specs.Prelude.{◌≡◌, ◌↔◌, ℕ, ◌+◌, ◌≤◌, min, max, Bool, List, [], ◌∷◌, ◌++◌, length, take, drop, Option}
+use Rattle.std.specs.Prelude.{◌≡◌, ◌↔◌, ℕ, ◌+◌, ◌≤◌, min, max, Bool, List, [], ◌∷◌, ◌++◌, length, take, drop, Option, Result, OnOk}
 use Rattle.std.proofs.Common.{option_map}
 use Rattle.dk_device.specs.declared.device.TheConstants.{LAST_MOMENT}
 use Rattle.dk_device.specs.declared.device.FileId.{FileId}
@@ -18,8 +18,8 @@ other Main = Wal
 other Wal = Main
 
 -- the bytes with these over those at a place, and past the end
-abbrev pub overlaid : ℕ → List ℕ → List ℕ → List ℕ
-overlaid at bytes old = take at old ++ bytes ++ drop (at + length bytes) old
+abbrev pub overlay : ℕ → List ℕ → List ℕ → List ℕ
+overlay at bytes old = take at old ++ bytes ++ drop (at + length bytes) old
 
 -- What a crash may leave after a write of n bytes to a file that reads as `extent` bytes, where it might have left
 -- `old` before: any bytes in the range, the same elsewhere, and a length up to the range's end. A write that lengthens
@@ -43,10 +43,13 @@ Follows step old new = (c : List ℕ) → new c → (d : List ℕ) × old d × s
 abbrev pub Allows : (List ℕ → List ℕ → Type 0) → (List ℕ → Type 0) → (List ℕ → Type 0) → Type 0
 Allows step old new = (d c : List ℕ) → old d → step d c → new c
 
--- a call may have happened or not: an image after it is one from before it, or one after a step
-pub record MayHappen (step : List ℕ → List ℕ → Type 0) (old new : List ℕ → Type 0) : Type 0 where
+-- A call may have happened or not: an image after it is one from before it, or one after a step. Where it answered
+-- Ok, each such step leads to an image.
+pub record MayHappen {T E : Type 0} (step : List ℕ → List ℕ → Type 0) (result : Result T E)
+    (old new : List ℕ → Type 0) : Type 0 where
   pub follows : Follows step old new
   pub not_done : (c : List ℕ) → old c → new c
+  pub allows : OnOk result (Allows step old new)
 
 -- the file beside one that a call is for reads as before, is as long, and a crash leaves the same of it
 pub record LeavesOther (file : FileId) (read read' : FileId → Option (List ℕ)) (len len' : FileId → ℕ)

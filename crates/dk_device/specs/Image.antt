@@ -6,14 +6,14 @@ use Rattle.dk_device.specs.declared.calls.Request.{Request}
 use Rattle.dk_device.specs.declared.calls.Request.TheVariants.{Read, Write, Cut, Sync}
 use Rattle.dk_device.specs.declared.image.Choice.{Choice}
 use Rattle.dk_device.specs.declared.image.Choice.TheVariants.{Kept, Lost, Torn}
-use Rattle.dk_device.specs.Disk.{overlaid}
+use Rattle.dk_device.specs.Disk.{overlay}
 use Rattle.dk_device.specs.Replay.{History, if_same, effect_on, start_of, calls_before}
 
 -- what a write leaves: all of its bytes, none, or each replaced by this one
 abbrev pub written_by : Choice → ℕ → List ℕ → List ℕ → List ℕ
-written_by Kept at bytes image = overlaid at bytes image
+written_by Kept at bytes image = overlay at bytes image
 written_by Lost at bytes image = image
-written_by (Torn byte) at bytes image = overlaid at (replicate (length bytes) byte) image
+written_by (Torn byte) at bytes image = overlay at (replicate (length bytes) byte) image
 
 -- what a cut leaves
 abbrev pub cut_by : Choice → ℕ → List ℕ → List ℕ

@@ -2,6 +2,7 @@ pub mod Calls
 pub mod Changes
 pub mod ContentIsImage
 pub mod Disk
+pub mod Effects
 pub mod File
 pub mod Host
 pub mod HostFiles

@@ -10,7 +10,7 @@ use Rattle.dk_device.specs.declared.calls.Request.{Request}
 use Rattle.dk_device.specs.declared.calls.Request.TheVariants.{Read, Write, Cut, Sync}
 use Rattle.dk_device.specs.declared.faults.Faults.{Faults}
 use Rattle.dk_device.specs.declared.faults.Fault.{Fault}
-use Rattle.dk_device.specs.declared.faults.Fault.TheVariants.{Listed, Refused, Ended, Passing}
+use Rattle.dk_device.specs.declared.faults.Fault.TheVariants.{ListedMoment, NoMemory, LastMoment, PastEnd}
 use Rattle.dk_fault.specs.Causes.{Rose}
 use Rattle.dk_fault.specs.Counts.{next_count}
 use Rattle.dk_device.specs.File.{FileState}
@@ -34,13 +34,13 @@ pub record Stands (main wal : FileState) (calls : List DiskCall) (moment : ℕ) 
   pub bound : moment ≤ LAST_MOMENT
 
 abbrev pub with_fault : Fault → Faults → Faults
-with_fault Listed faults = record faults { listed = next_count faults.listed }
-with_fault Refused faults = record faults { refused = next_count faults.refused }
-with_fault Ended faults = record faults { ended = next_count faults.ended }
-with_fault Passing faults = record faults { passing = next_count faults.passing }
+with_fault ListedMoment faults = record faults { listed_moments = next_count faults.listed_moments }
+with_fault NoMemory faults = record faults { refusals = next_count faults.refusals }
+with_fault LastMoment faults = record faults { last_moments = next_count faults.last_moments }
+with_fault PastEnd faults = record faults { past_ends = next_count faults.past_ends }
 
 abbrev pub total : Faults → ℕ
-total faults = faults.listed + faults.refused + faults.ended + faults.passing
+total faults = faults.listed_moments + faults.refusals + faults.last_moments + faults.past_ends
 
 -- a write that would end past the greatest length
 abbrev pub PassesEnd : Request → Type 0
@@ -59,15 +59,15 @@ Reason old request true new = (old.history.moment < LAST_MOMENT) × (is_listed o
     × (PassesEnd request → ⊥)
 Reason old request false new = (LAST_MOMENT ≤ old.history.moment)
     ⊎ ((is_listed old.failing old.history.moment ≡ true)
-    ⊎ (PassesEnd request ⊎ Rose old.faults.refused new.faults.refused))
+    ⊎ (PassesEnd request ⊎ Rose old.faults.refusals new.faults.refusals))
 
 -- what a fault says of the call
 abbrev pub FaultShows : List ℕ → ℕ → Request → Option Fault → Type 0
 FaultShows failing moment request None = (is_listed failing moment ≡ false) × (PassesEnd request → ⊥)
-FaultShows failing moment request (Some Listed) = is_listed failing moment ≡ true
-FaultShows failing moment request (Some Refused) = Unit {0}
-FaultShows failing moment request (Some Ended) = ⊥
-FaultShows failing moment request (Some Passing) = PassesEnd request
+FaultShows failing moment request (Some ListedMoment) = is_listed failing moment ≡ true
+FaultShows failing moment request (Some NoMemory) = Unit {0}
+FaultShows failing moment request (Some LastMoment) = ⊥
+FaultShows failing moment request (Some PastEnd) = PassesEnd request
 
 -- how a call went
 pub record Performs (file : FileId) (request : Request) (r : Result (Unit {0}) Failed) (h h' : History) : Type 0 where

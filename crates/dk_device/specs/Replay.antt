@@ -6,7 +6,7 @@ use Rattle.dk_device.specs.declared.device.FileId.TheVariants.{Main, Wal}
 use Rattle.dk_device.specs.declared.calls.DiskCall.{DiskCall}
 use Rattle.dk_device.specs.declared.calls.Request.{Request}
 use Rattle.dk_device.specs.declared.calls.Request.TheVariants.{Read, Write, Cut, Sync}
-use Rattle.dk_device.specs.Disk.{of_file, overlaid, TornWrite, TornCut, next_moment, call_at}
+use Rattle.dk_device.specs.Disk.{of_file, overlay, TornWrite, TornCut, next_moment, call_at}
 
 -- the first where the two files are one, else the second
 abbrev pub if_same {ℓ} : {T : Type ℓ} → FileId → FileId → T → T → T
@@ -18,7 +18,7 @@ if_same Wal Wal same differs = same
 -- what a call that is done makes of its file
 abbrev pub effect : Request → List ℕ → List ℕ
 effect (Read at len) old = old
-effect (Write at bytes) old = overlaid at bytes old
+effect (Write at bytes) old = overlay at bytes old
 effect (Cut len) old = take len old
 effect Sync old = old
 

@@ -1,6 +1,6 @@
 //! Bytes written over others.
 ghost use Rattle.std.specs.Prelude.{◌≡◌, ◌+◌, ◌≤◌, ◌++◌, length, take, drop, vec_len, OnOk, OnErr};
-ghost use Rattle.dk_device.specs.Disk.{overlaid};
+ghost use Rattle.dk_device.specs.Disk.{overlay};
 
 use std::alloc::AllocError as OutOfMemory;
 
@@ -17,7 +17,7 @@ fn put_over(target: &mut [u8], at: usize, bytes: &[u8])
 /// Writes the bytes over those at a place within, and past the end.
 fn overwrite_within(content: &mut Vec<u8>, at: usize, bytes: &[u8]) -> Result<(), OutOfMemory>
     requires { at ≤ vec_len content.old }
-    ensures ok { OnOk result (content.new.items ≡ overlaid at bytes.now content.old.items) }
+    ensures ok { OnOk result (content.new.items ≡ overlay at bytes.now content.old.items) }
     ensures err { OnErr result (content.new.items ≡ content.old.items) }
 {
     let inside = bytes.len().min(content.len() - at);
@@ -30,7 +30,7 @@ fn overwrite_within(content: &mut Vec<u8>, at: usize, bytes: &[u8]) -> Result<()
 /// Writes the bytes over those at a place, or at the end where the place is past it.
 #[tactic(auto, using(crate::proofs::OverlayLemmas::overlaid_min))]
 pub(crate) fn overwrite(content: &mut Vec<u8>, at: usize, bytes: &[u8]) -> Result<(), OutOfMemory>
-    ensures ok { OnOk result (content.new.items ≡ overlaid at bytes.now content.old.items) }
+    ensures ok { OnOk result (content.new.items ≡ overlay at bytes.now content.old.items) }
     ensures err { OnErr result (content.new.items ≡ content.old.items) }
 {
     let within = at.min(content.len());

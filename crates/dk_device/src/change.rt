@@ -1,7 +1,7 @@
 //! What a call makes of two files in memory.
 ghost use Rattle.std.specs.Prelude.{◌≡◌, ◌⊎◌, ◌≤◌, ◌<◌, ◌+◌, ◌^◌, length, true, false, is_none, OnOk, OnErr};
 ghost use Rattle.dk_device.specs.declared.device.FileId.TheVariants.{Main, Wal};
-ghost use Rattle.dk_device.specs.declared.faults.Fault.TheVariants.{Listed, Refused, Ended, Passing};
+ghost use Rattle.dk_device.specs.declared.faults.Fault.TheVariants.{ListedMoment, NoMemory, LastMoment, PastEnd};
 ghost use Rattle.dk_device.specs.Memory.{PassesEnd, is_listed, FaultShows};
 ghost use Rattle.dk_device.specs.Replay.{effect, effect_if, effect_on};
 
@@ -50,14 +50,14 @@ fn attempt(target: &mut MemoryFile, failing: &[u64], now: u64, request: &Request
     ensures shows { FaultShows failing.now now request.now result }
 {
     if failing.contains(&now) {
-        return Some(Fault::Listed);
+        return Some(Fault::ListedMoment);
     }
     if passes_end(request) {
-        return Some(Fault::Passing);
+        return Some(Fault::PastEnd);
     }
     match apply(target, request) {
         Ok(()) => None,
-        Err(_) => Some(Fault::Refused),
+        Err(_) => Some(Fault::NoMemory),
     }
 }
 

@@ -1,6 +1,5 @@
 //! A disk of two files, as the store sees it.
-ghost use Rattle.std.specs.Prelude.{◌≡◌, ◌⊎◌, ◌↔◌, ◌+◌, ◌-◌, ◌≤◌, ◌^◌, ◌<◌, ℕ, List, [], ◌∷◌, ◌++◌, length, take, drop, max, Bool, true, false, is_ok, Option, Some, IfSome, IsErr, OnOk, OnErr};
-ghost use Rattle.std.proofs.Common.{option_map};
+ghost use Rattle.std.specs.Prelude.{◌≡◌, ◌+◌, ◌≤◌, ◌^◌, ◌<◌, ℕ, List, length, take, drop, Bool, Option, Some, IfSome, OnOk};
 
 use dk_fault::Failed;
 use thiserror::Error;
@@ -40,7 +39,7 @@ pub trait Disk {
     ghost use Rattle.dk_device.specs.declared.calls.Request.{Request};
     ghost use Rattle.dk_device.specs.declared.calls.Request.TheVariants.{Read, Write, Cut, Sync};
     ghost use Rattle.dk_fault.specs.Causes.{HasCause};
-    ghost use Rattle.dk_device.specs.Disk.{other, overlaid, TornWrite, TornCut, MayHappen, Allows, LeavesOther, SameImages, SameFiles, Elapses, with_call, call_at};
+    ghost use Rattle.dk_device.specs.Effects.{KeepsAll, Writes, Cuts, Settles, MakesCall};
 
     /// How many bytes a file has.
     ghost extent: { Self → FileId → ℕ };
@@ -72,106 +71,33 @@ pub trait Disk {
         requires { at + length out.old ≤ extent self.old file }
         ensures bytes { OnOk result (IfSome (content self.old file)
             (λ bytes. out.new ≡ take (length out.old) (drop at bytes))) }
-        ensures content { SameFiles (content self.old) (content self.new) }
-        ensures extent { SameFiles (extent self.old) (extent self.new) }
-        ensures images { SameImages (may_leave self.old (time self.old))
-            (may_leave self.new (time self.new)) }
-        ensures time { Elapses (time self.old) (time self.new) (may_leave self.old)
-            (may_leave self.new) }
-        ensures called { OnOk result (calls self.new ≡ with_call
-            (call_at (time self.old) file (Read at (length out.old)) true) (calls self.old)) }
-        ensures reason { reason self.old (Read at (length out.old)) (is_ok result) self.new }
-        ensures tried { OnErr result ((calls self.new ≡ calls self.old)
-            ⊎ (calls self.new ≡ with_call
-            (call_at (time self.old) file (Read at (length out.old)) false)
-            (calls self.old))) }
-        ensures ended { LAST_MOMENT ≤ time self.old → IsErr result }
+        ensures same { KeepsAll content extent time may_leave self.old self.new }
+        ensures call { MakesCall content extent time may_leave calls reason
+            file (Read at (length out.old)) self.old self.new result }
         ensures cause { HasCause (faults self.old) (faults self.new) result };
 
     /// Writes over what is there, and past the end. Fails where the range would end past [`MOST_BYTES`].
     fn write_at(&mut self, file: FileId, at: u64, bytes: &[u8]) -> Result<(), Failed>
         requires { at ≤ extent self.old file }
-        ensures written { OnOk result (content self.new file ≡ option_map (overlaid at bytes.now)
-            (content self.old file)) }
-        ensures grown { OnOk result (extent self.new file ≡ max (extent self.old file)
-            (at + length bytes.now)) }
-        ensures no_shorter { extent self.old file ≤ extent self.new file }
-        ensures no_longer { extent self.new file ≤ max (extent self.old file)
-            (at + length bytes.now) }
-        ensures too_far { MOST_BYTES < at + length bytes.now → IsErr result
-            × SameFiles (content self.old) (content self.new)
-            × SameFiles (extent self.old) (extent self.new)
-            × SameImages (may_leave self.old (time self.old)) (may_leave self.new (time self.new)) }
-        ensures crash { MayHappen (TornWrite at (length bytes.now) (extent self.old file))
-            (may_leave self.old (time self.old) file) (may_leave self.new (time self.new) file) }
-        ensures torn { OnOk result (Allows (TornWrite at (length bytes.now) (extent self.old file))
-            (may_leave self.old (time self.old) file) (may_leave self.new (time self.new) file)) }
-        ensures other_file { LeavesOther file (content self.old) (content self.new)
-            (extent self.old) (extent self.new)
-            (may_leave self.old (time self.old)) (may_leave self.new (time self.new)) }
-        ensures time { Elapses (time self.old) (time self.new) (may_leave self.old)
-            (may_leave self.new) }
-        ensures called { OnOk result (calls self.new ≡ with_call
-            (call_at (time self.old) file (Write at bytes.now) true) (calls self.old)) }
-        ensures reason { reason self.old (Write at bytes.now) (is_ok result) self.new }
-        ensures tried { OnErr result ((calls self.new ≡ with_call
-            (call_at (time self.old) file (Write at bytes.now) false) (calls self.old))
-            ⊎ ((calls self.new ≡ calls self.old) × SameFiles (content self.old) (content self.new)
-            × SameImages (may_leave self.old (time self.old))
-            (may_leave self.new (time self.new)))) }
-        ensures ended { LAST_MOMENT ≤ time self.old → IsErr result }
+        ensures writes { Writes content extent time may_leave
+            file at bytes.now self.old self.new result }
+        ensures call { MakesCall content extent time may_leave calls reason
+            file (Write at bytes.now) self.old self.new result }
         ensures cause { HasCause (faults self.old) (faults self.new) result };
 
     /// Cuts a file to a length.
     fn cut(&mut self, file: FileId, len: u64) -> Result<(), Failed>
         requires { len ≤ extent self.old file }
-        ensures cut { OnOk result
-            (content self.new file ≡ option_map (take len) (content self.old file)) }
-        ensures shrunk { OnOk result (extent self.new file ≡ len) }
-        ensures no_shorter { len ≤ extent self.new file }
-        ensures no_longer { extent self.new file ≤ extent self.old file }
-        ensures crash { MayHappen (TornCut len) (may_leave self.old (time self.old) file)
-            (may_leave self.new (time self.new) file) }
-        ensures torn { OnOk result (Allows (TornCut len) (may_leave self.old (time self.old) file)
-            (may_leave self.new (time self.new) file)) }
-        ensures other_file { LeavesOther file (content self.old) (content self.new)
-            (extent self.old) (extent self.new)
-            (may_leave self.old (time self.old)) (may_leave self.new (time self.new)) }
-        ensures time { Elapses (time self.old) (time self.new) (may_leave self.old)
-            (may_leave self.new) }
-        ensures called { OnOk result (calls self.new ≡ with_call
-            (call_at (time self.old) file (Cut len) true) (calls self.old)) }
-        ensures reason { reason self.old (Cut len) (is_ok result) self.new }
-        ensures tried { OnErr result ((calls self.new ≡ with_call
-            (call_at (time self.old) file (Cut len) false) (calls self.old))
-            ⊎ ((calls self.new ≡ calls self.old) × SameFiles (content self.old) (content self.new)
-            × SameImages (may_leave self.old (time self.old))
-            (may_leave self.new (time self.new)))) }
-        ensures ended { LAST_MOMENT ≤ time self.old → IsErr result }
+        ensures cuts { Cuts content extent time may_leave file len self.old self.new result }
+        ensures call { MakesCall content extent time may_leave calls reason
+            file (Cut len) self.old self.new result }
         ensures cause { HasCause (faults self.old) (faults self.new) result };
 
     /// After it, a crash leaves of that file what a read gives.
     fn sync(&mut self, file: FileId) -> Result<(), Failed>
-        ensures durable { OnOk result ((c : List ℕ) → may_leave self.new (time self.new) file c →
-            content self.new file ≡ Some c) }
-        ensures content { SameFiles (content self.old) (content self.new) }
-        ensures extent { SameFiles (extent self.old) (extent self.new) }
-        ensures crash { (c : List ℕ) → may_leave self.new (time self.new) file c →
-            may_leave self.old (time self.old) file c }
-        ensures other_images { (c : List ℕ) → may_leave self.new (time self.new) (other file) c
-            ↔ may_leave self.old (time self.old) (other file) c }
-        ensures time { Elapses (time self.old) (time self.new) (may_leave self.old)
-            (may_leave self.new) }
-        ensures called { OnOk result
-            (calls self.new ≡ with_call (call_at (time self.old) file Sync true)
-            (calls self.old)) }
-        ensures reason { reason self.old Sync (is_ok result) self.new }
-        ensures tried { OnErr result
-            ((calls self.new ≡ with_call (call_at (time self.old) file Sync false)
-            (calls self.old)) ⊎ ((calls self.new ≡ calls self.old)
-            × SameImages (may_leave self.old (time self.old))
-            (may_leave self.new (time self.new)))) }
-        ensures ended { LAST_MOMENT ≤ time self.old → IsErr result }
+        ensures settles { Settles content extent time may_leave file self.old self.new result }
+        ensures call { MakesCall content extent time may_leave calls reason
+            file Sync self.old self.new result }
         ensures cause { HasCause (faults self.old) (faults self.new) result };
 
     /// The number of calls of the four kinds above begun so far, but never more than [`LAST_MOMENT`].

@@ -6,22 +6,23 @@ use dk_fault::next_count;
 /// How often calls have failed, by their cause. A count stands still at its last value.
 #[derive(Clone, Copy, Debug, Drop)]
 pub struct Faults {
-    /// Listed calls that were met.
-    pub listed: u64,
+    /// Calls at a listed moment.
+    pub listed_moments: u64,
     /// Calls that found no memory.
-    pub refused: u64,
+    pub refusals: u64,
     /// Calls at the last moment.
-    pub ended: u64,
-    /// Writes that would pass the end.
-    pub passing: u64,
+    pub last_moments: u64,
+    /// Writes that would end past the greatest length.
+    pub past_ends: u64,
 }
 
+/// Why a call failed.
 #[derive(Clone, Copy, Debug, Drop)]
 pub enum Fault {
-    Listed,
-    Refused,
-    Ended,
-    Passing,
+    ListedMoment,
+    NoMemory,
+    LastMoment,
+    PastEnd,
 }
 
 impl Faults {
@@ -32,10 +33,10 @@ impl Faults {
         ensures { total result ≡ 0 }
     {
         Faults {
-            listed: 0,
-            refused: 0,
-            ended: 0,
-            passing: 0,
+            listed_moments: 0,
+            refusals: 0,
+            last_moments: 0,
+            past_ends: 0,
         }
     }
 
@@ -44,10 +45,10 @@ impl Faults {
         ensures rose { Rose (total self.old) (total self.new) }
     {
         match fault {
-            Fault::Listed => self.listed = next_count(self.listed),
-            Fault::Refused => self.refused = next_count(self.refused),
-            Fault::Ended => self.ended = next_count(self.ended),
-            Fault::Passing => self.passing = next_count(self.passing),
+            Fault::ListedMoment => self.listed_moments = next_count(self.listed_moments),
+            Fault::NoMemory => self.refusals = next_count(self.refusals),
+            Fault::LastMoment => self.last_moments = next_count(self.last_moments),
+            Fault::PastEnd => self.past_ends = next_count(self.past_ends),
         }
     }
 }

@@ -24,7 +24,7 @@ impl Model for MemoryFile {
 }
 
 impl MemoryFile {
-    ghost use Rattle.dk_device.specs.Disk.{overlaid};
+    ghost use Rattle.dk_device.specs.Disk.{overlay};
     ghost use Rattle.dk_device.specs.Image.{image_after};
 
     pub(crate) fn new(start: Vec<u8>) -> MemoryFile
@@ -78,7 +78,7 @@ impl MemoryFile {
     /// Writes over the bytes at a place, and past the end.
     pub(crate) fn write(&mut self, at: usize, bytes: &[u8]) -> Result<(), OutOfMemory>
         ensures start { self.new.start ≡ self.old.start }
-        ensures ok { OnOk result (self.new.bytes ≡ overlaid at bytes.now self.old.bytes) }
+        ensures ok { OnOk result (self.new.bytes ≡ overlay at bytes.now self.old.bytes) }
         ensures err { OnErr result (self.new.bytes ≡ self.old.bytes) }
     {
         let mut content = self.take()?;

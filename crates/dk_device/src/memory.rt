@@ -53,7 +53,7 @@ fn note(calls: &mut Vec<DiskCall>, call: DiskCall)
 
 impl MemoryDisk {
     ghost use Rattle.dk_device.specs.declared.calls.Request.TheVariants.{Read, Write, Cut, Sync};
-    ghost use Rattle.dk_device.specs.declared.faults.Fault.TheVariants.{Listed, Refused, Ended, Passing};
+    ghost use Rattle.dk_device.specs.declared.faults.Fault.TheVariants.{ListedMoment, NoMemory, LastMoment, PastEnd};
     ghost use Rattle.dk_fault.specs.Causes.{Rose, HasCause};
     ghost use Rattle.dk_device.specs.Changes.{IsSynced};
     ghost use Rattle.dk_device.specs.declared.device.FileId.{FileId};
@@ -86,10 +86,10 @@ impl MemoryDisk {
     }
 
     /// How many calls found no memory.
-    pub fn refused(&self) -> u64
-        ensures { result ≡ self.now.faults.refused }
+    pub fn refusals(&self) -> u64
+        ensures { result ≡ self.now.faults.refusals }
     {
-        self.faults.refused
+        self.faults.refusals
     }
 
     /// One image of a crash just before the call of that number.
@@ -141,10 +141,10 @@ impl MemoryDisk {
     {
         let now = self.moment;
         if now >= LAST_MOMENT {
-            return Err(self.fail(Fault::Ended));
+            return Err(self.fail(Fault::LastMoment));
         }
         if self.calls.reserve(1).is_err() {
-            return Err(self.fail(Fault::Refused));
+            return Err(self.fail(Fault::NoMemory));
         }
         let fault = attempt_at(
             &mut self.main,
@@ -193,7 +193,7 @@ impl MemoryDisk {
         let alloc = *self.failing.allocator();
         match Written::copy_of(alloc, bytes) {
             Ok(bytes) => self.perform(file, Request::Write { at, bytes }),
-            Err(_) => Err(self.fail(Fault::Refused)),
+            Err(_) => Err(self.fail(Fault::NoMemory)),
         }
     }
 
@@ -286,7 +286,7 @@ mod tests {
         assert!(rt; disk.write_at(FileId::Main, 0, b"").is_err());
         assert!(rt; disk.cut(FileId::Main, 0).is_err());
         assert!(rt; disk.sync(FileId::Wal).is_err());
-        assert_eq!(rt; (disk.moment, disk.faults.ended), (LAST_MOMENT, 4));
+        assert_eq!(rt; (disk.moment, disk.faults.last_moments), (LAST_MOMENT, 4));
         Ok(())
     }
 
@@ -294,7 +294,7 @@ mod tests {
     fn a_write_past_the_end_fails(rt: HostRuntime) -> Result<(), Fail> {
         let mut disk = empty(rt.alloc(), 0);
         assert!(rt; write_far(&mut disk).is_err());
-        assert_eq!(rt; (disk.moment, disk.faults.passing), (1, 1));
+        assert_eq!(rt; (disk.moment, disk.faults.past_ends), (1, 1));
         Ok(())
     }
 }

@@ -4,7 +4,7 @@ ghost use Rattle.std.proofs.Common.{option_map};
 ghost use Rattle.dk_device.specs.Calls.{Makes, synced_write, synced_cut};
 ghost use Rattle.dk_fault.specs.Causes.{HasCause};
 ghost use Rattle.dk_device.specs.Changes.{IsSynced, IsWithin, ChangesAlone};
-ghost use Rattle.dk_device.specs.Disk.{overlaid, TornWrite, TornCut};
+ghost use Rattle.dk_device.specs.Disk.{overlay, TornWrite, TornCut};
 
 use crate::{Disk, Failed, FileId};
 
@@ -16,7 +16,7 @@ pub fn write_synced<D: Disk>(
     bytes: &[u8],
 ) -> Result<(), Failed>
     requires { at ≤ D.extent disk.old file }
-    ensures written { OnOk result (D.content disk.new file ≡ option_map (overlaid at bytes.now)
+    ensures written { OnOk result (D.content disk.new file ≡ option_map (overlay at bytes.now)
         (D.content disk.old file)) }
     ensures grown { OnOk result (D.extent disk.new file ≡ max (D.extent disk.old file)
         (at + length bytes.now)) }

@@ -56,7 +56,7 @@ fn a_write_is_read_and_listed_calls_fail(rt: HostRuntime) -> Result<(), Fail> {
     cut(&mut disk, 2)?;
     sync(&mut disk)?;
     assert_eq!(rt; lengths(&disk), (2, 0, 5));
-    assert_eq!(rt; disk.refused(), 0);
+    assert_eq!(rt; disk.refusals(), 0);
     Ok(())
 }
 

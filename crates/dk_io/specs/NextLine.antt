@@ -1,9 +1,9 @@
 -- What a call for the next line does, by what it answers.
-use Rattle.std.specs.Prelude.{◌≡◌, ℕ, ◌+◌, ◌<◌, ◌≤◌, true, false, List, [], length, Option, ⊤}
+use Rattle.std.specs.Prelude.{◌≡◌, ◌↔◌, ℕ, ◌+◌, ◌<◌, ◌≤◌, true, false, List, [], length, Option, Result, IfOk, IfErr, OnErr, IsErrOf, ⊤}
 use Rattle.std.specs.Io.KnownBytes.{IsAtEnd}
 use Rattle.dk_fault.specs.Causes.{Rose}
 use Rattle.dk_io.specs.LinesLeft.{lines_left, answer_content, line_count, Pops, Stays, BeginsTooLong, Counts}
-use Rattle.dk_io.specs.LinesGiven.{Passes}
+use Rattle.dk_io.specs.LinesGiven.{Passes, lines_given}
 use Rattle.dk_io.specs.ReaderState.{ReaderState}
 use Rattle.dk_io.specs.declared.lines.LineError.{LineError}
 use Rattle.dk_io.specs.declared.lines.LineError.TheVariants.{TooLong, TooMuch, Fault, OutOfMemory}
@@ -49,3 +49,14 @@ pub record CountsOn {S : Type 0} (g : Ghosts S) (old new : ReaderState) (before 
   pub later : g.faults before ≤ g.faults after
   pub limit : new.limit ≡ old.limit
   pub total : new.total ≡ old.total
+
+-- A call for the next line: it reads one, or loses none and says why. Until the input ends, only line feeds end lines,
+-- whatever follows. The text is too much where more than the limit of the whole was taken, and only there.
+pub record GoesOn {S : Type 0} (g : Ghosts S) (old new : ReaderState) (before after : S)
+    (result : Result Next LineError) : Type 0 where
+  pub line : IfOk result (λ next. ReadsLine g old new before after next)
+  pub kept : OnErr result (KeepsLines g old new before after)
+  pub reason : IfErr result (λ e. HasReason g old new before after e)
+  pub much : IsErrOf result TooMuch ↔ (new.total < new.taken)
+  pub end : TellsEnd g old new before after (lines_given result new.line)
+  pub counts : CountsOn g old new before after

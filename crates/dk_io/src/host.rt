@@ -5,32 +5,43 @@ use crate::streams::{Sink, Source};
 use dk_fault::{Failed, next_count};
 use std::io::{ErrorKind, Read, Write};
 
-/// A source over a reader, as the one of standard input. A read that a signal broke off is made again. What is left is
-/// what the reader tells, and the runtime's tells nothing.
+/// A reader or a writer, as that of standard input or output, and how often it failed. A call that a signal broke off
+/// is made again. What is left and what was taken is what the reader and the writer tell, and the runtime's tell
+/// nothing.
 #[derive(Debug, Drop)]
-pub struct StdSource<R> {
-    reader: R,
+pub struct StdStream<T> {
+    stream: T,
     faults: u64,
 }
 
-impl<R: Read> StdSource<R> {
-    /// A source over `reader` that has met no fault.
-    pub fn new(reader: R) -> StdSource<R>
-        ensures left { ⟦<StdSource<R> as Source>⟧.left result ≡ R.remaining reader }
-        ensures faults { ⟦<StdSource<R> as Source>⟧.faults result ≡ 0 }
+impl<R: Read> StdStream<R> {
+    /// A source over a reader that has met no fault.
+    pub fn source(stream: R) -> StdStream<R>
+        ensures left { ⟦<StdStream<R> as Source>⟧.left result ≡ R.remaining stream }
+        ensures faults { ⟦<StdStream<R> as Source>⟧.faults result ≡ 0 }
     {
-        StdSource { reader, faults: 0 }
+        StdStream { stream, faults: 0 }
     }
 }
 
-impl<R: Read> Source for StdSource<R> {
-    ghost left = { λ s. R.remaining s.reader };
+impl<W: Write> StdStream<W> {
+    /// A sink over a writer that has met no fault.
+    pub fn sink(stream: W) -> StdStream<W>
+        ensures taken { ⟦<StdStream<W> as Sink>⟧.taken result ≡ W.contents stream }
+        ensures faults { ⟦<StdStream<W> as Sink>⟧.faults result ≡ 0 }
+    {
+        StdStream { stream, faults: 0 }
+    }
+}
+
+impl<R: Read> Source for StdStream<R> {
+    ghost left = { λ s. R.remaining s.stream };
 
     ghost faults = { λ s. s.faults };
 
     fn read(&mut self, buf: &mut [u8]) -> Result<usize, Failed> {
         'tries: for _ in 0..u64::MAX {
-            match self.reader.read(buf) {
+            match self.stream.read(buf) {
                 Ok(count) => return Ok(count),
                 Err(e) if e.kind() == ErrorKind::Interrupted => {}
                 Err(_) => break 'tries,
@@ -41,32 +52,15 @@ impl<R: Read> Source for StdSource<R> {
     }
 }
 
-/// A sink over a writer, as the one of standard output. A write that a signal broke off is made again, and one that
-/// takes nothing is a fault. What was taken is what the writer tells, and the runtime's tells nothing.
-#[derive(Debug, Drop)]
-pub struct StdSink<W> {
-    writer: W,
-    faults: u64,
-}
-
-impl<W: Write> StdSink<W> {
-    /// A sink over `writer` that has met no fault.
-    pub fn new(writer: W) -> StdSink<W>
-        ensures taken { ⟦<StdSink<W> as Sink>⟧.taken result ≡ W.contents writer }
-        ensures faults { ⟦<StdSink<W> as Sink>⟧.faults result ≡ 0 }
-    {
-        StdSink { writer, faults: 0 }
-    }
-}
-
-impl<W: Write> Sink for StdSink<W> {
-    ghost taken = { λ s. W.contents s.writer };
+impl<W: Write> Sink for StdStream<W> {
+    ghost taken = { λ s. W.contents s.stream };
 
     ghost faults = { λ s. s.faults };
 
+    // A write that takes nothing is a fault.
     fn write(&mut self, bytes: &[u8]) -> Result<usize, Failed> {
         'tries: for _ in 0..u64::MAX {
-            match self.writer.write(bytes) {
+            match self.stream.write(bytes) {
                 Ok(0) => break 'tries,
                 Ok(count) => return Ok(count),
                 Err(e) if e.kind() == ErrorKind::Interrupted => {}

@@ -19,7 +19,7 @@ mod tests;
 mod writing;
 
 pub use dk_fault::Failed;
-pub use host::{StdSink, StdSource};
+pub use host::StdStream;
 pub use memory::{MemorySink, MemorySource};
 pub use pausing::{NoPause, Pause, Point};
 pub use streams::{Sink, Source};

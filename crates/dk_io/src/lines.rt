@@ -5,8 +5,7 @@ ghost use Rattle.std.specs.Str.Lines.{strip_carriage_return};
 ghost use Rattle.dk_io.specs.Lines.{is_too_long, line_content};
 ghost use Rattle.dk_io.specs.LinesLeft.{answer_content, line_count};
 ghost use Rattle.dk_io.specs.LineMoves.{CountsTo, Fills, StopsFilling, Moves, StopsMoving, EndsLine, EndsText};
-ghost use Rattle.dk_io.specs.NextLine.{ReadsLine, KeepsLines, HasReason, TellsEnd, CountsOn};
-ghost use Rattle.dk_io.specs.LinesGiven.{lines_given};
+ghost use Rattle.dk_io.specs.NextLine.{GoesOn};
 ghost use Rattle.dk_io.specs.ReaderState.{fresh_reader};
 
 use crate::begun_line::{end_line, find_end, is_passed, is_too_long, keep};
@@ -150,22 +149,10 @@ impl LineReader {
 
     /// Goes on to the next line, and says whether there is one, whether it is passed over, or whether the input ends.
     pub fn next_line<S: Source>(&mut self, source: &mut S) -> Result<Next, LineError>
-        ensures line { IfOk result (λ next.
-            ReadsLine S.Source self.old self.new source.old source.new next) }
+        ensures goes_on { GoesOn S.Source self.old self.new source.old source.new result }
 
-        // After an error no line is lost, and the next call tries again.
-        ensures kept { OnErr result (KeepsLines S.Source self.old self.new source.old source.new) }
-        ensures reason { IfErr result (λ e.
-            HasReason S.Source self.old self.new source.old source.new e) }
-        ensures much { IsErrOf result LineError.TooMuch ↔ (self.new.total < self.new.taken) }
-
-        // Until the input ends, only line feeds end lines, whatever follows. At its end nothing is left.
-        ensures end { TellsEnd S.Source self.old self.new source.old source.new
-            (lines_given result self.new.line) }
-
-        // The source is asked only where no whole line is held, and what it gives is counted.
+        // The source is asked only where no whole line is held.
         ensures asks { Contains self.old.held 10 → source.new ≡ source.old }
-        ensures counts { CountsOn S.Source self.old self.new source.old source.new }
     {
         self.begin_call();
         if self.taken > self.total {
@@ -190,15 +177,7 @@ impl LineReader {
         requires taken { self.old.taken ≤ self.old.total }
         requires fits { is_too_long self.old.limit self.old.begun ≡ false }
         requires going { self.old.ended ≡ false }
-        ensures line { IfOk result (λ next.
-            ReadsLine S.Source self.old self.new source.old source.new next) }
-        ensures kept { OnErr result (KeepsLines S.Source self.old self.new source.old source.new) }
-        ensures reason { IfErr result (λ e.
-            HasReason S.Source self.old self.new source.old source.new e) }
-        ensures much { IsErrOf result LineError.TooMuch ↔ (self.new.total < self.new.taken) }
-        ensures end { TellsEnd S.Source self.old self.new source.old source.new
-            (lines_given result self.new.line) }
-        ensures counts { CountsOn S.Source self.old self.new source.old source.new }
+        ensures { GoesOn S.Source self.old self.new source.old source.new result }
     {
         'pieces: loop {
             if !self.fill(source)? {

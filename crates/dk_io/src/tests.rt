@@ -2,7 +2,7 @@
 use crate::lines::{LineError, LineReader, Next};
 use crate::pausing::{NoPause, Pause, Point};
 use crate::streams::{Sink, Source};
-use crate::{MemorySink, MemorySource, StdSink, StdSource, write_all};
+use crate::{MemorySink, MemorySource, StdStream, write_all};
 use std::alloc::{AllocError as OutOfMemory, Global};
 use std::test::Fail;
 
@@ -134,10 +134,10 @@ fn sink_in_memory(rt: HostRuntime) -> Result<(), Fail> {
 #[test]
 fn streams_of_std(rt: HostRuntime) -> Result<(), Fail> {
     let alloc = rt.alloc();
-    let mut source = StdSource::new(b"abc".as_slice());
+    let mut source = StdStream::source(b"abc".as_slice());
     let mut buf = [0u8; 2];
     assert_eq!(rt; source.read(&mut buf).ok(), Some(2));
-    let mut sink = StdSink::new(Vec::new(alloc));
+    let mut sink = StdStream::sink(Vec::new(alloc));
     assert_eq!(rt; sink.write(&buf).ok(), Some(2));
     NoPause.at(1, Point::BeforeStatement);
     Ok(())

@@ -2,7 +2,6 @@
 use Rattle.std.proofs.Common.{◌≡◌, ℕ, List, [], ◌++◌, Option, refl, sym, ap, subst, ◌∙◌, append_assoc}
 use Rattle.std.specs.Prelude.{codes, decimal}
 use Rattle.std.proofs.lemmas.List.{append-nil}
-use Rattle.std.specs.Io.KnownBytes.{Appends}
 use Rattle.dk_io.specs.Sinks.{TakesFront}
 use Rattle.dk_script.specs.declared.store.Answer.{Answer}
 use Rattle.dk_script.specs.declared.store.Answer.TheVariants.{Created, Changed, Rows, Refused}
@@ -11,7 +10,7 @@ use Rattle.dk_script.specs.Database.{Database}
 use Rattle.dk_script.specs.Paging.{Paged}
 use Rattle.dk_script.specs.Meaning.{reply_of}
 use Rattle.dk_script.specs.Texts.{session_text, reply_text}
-use Rattle.dk_script.proofs.PageLemmas.{leaves_send, leaves_front, leaves_end}
+use Rattle.dk_script.proofs.PageLemmas.{leaves_front}
 
 reply_parts : (db : Database) (answer : Answer)
     → reply_text [] (reply_of db answer) ≡ (words_text db answer ++ codes "\n") ++ body_text db answer
@@ -28,33 +27,20 @@ session_parts db session answer =
     ∙ sym (append_assoc (decimal session) (codes " " ++ (words_text db answer ++ codes "\n")) (body_text db answer)))
 
 -- the head was put on an empty page, and the body stands behind it
-reply_whole : (db : Database) (session : ℕ) (answer : Answer) (before head : List ℕ) → before ≡ []
-    → head ≡ before ++ head_text db session answer
-    → head ++ body_text db answer ≡ session_text session [] (reply_of db answer)
-reply_whole db session answer before head empty put =
-    ap (λ xs. xs ++ body_text db answer) (put ∙ ap (λ xs. xs ++ head_text db session answer) empty)
-    ∙ sym (session_parts db session answer)
+module _ (db : Database) (session : ℕ) (answer : Answer) (before head : List ℕ) (empty : before ≡ [])
+    (put : head ≡ before ++ head_text db session answer) where
+  reply_whole : head ++ body_text db answer ≡ session_text session [] (reply_of db answer)
+  reply_whole =
+      ap (λ xs. xs ++ body_text db answer) (put ∙ ap (λ xs. xs ++ head_text db session answer) empty)
+      ∙ sym (session_parts db session answer)
 
--- the body was written, and the page went out
-pub session_whole : (old mid new : Option (List ℕ)) (db : Database) (session : ℕ) (answer : Answer)
-    (before head page : List ℕ) → before ≡ [] → head ≡ before ++ head_text db session answer
-    → Paged old mid page [] (head ++ body_text db answer) → Appends mid new page
-    → Appends old new (session_text session [] (reply_of db answer))
-session_whole old mid new db session answer before head page empty put leaves sent =
-    subst (Appends old new) (reply_whole db session answer before head empty put)
-    (leaves_end old new _ (leaves_send old mid new page [] _ sent leaves))
+  pub session_more : (old new : Option (List ℕ)) → TakesFront old new (head ++ body_text db answer)
+      → TakesFront old new (session_text session [] (reply_of db answer))
+  session_more old new front = subst (TakesFront old new) reply_whole front
 
-pub session_front : (old mid new : Option (List ℕ)) (db : Database) (session : ℕ) (answer : Answer)
-    (before head page : List ℕ) → before ≡ [] → head ≡ before ++ head_text db session answer
-    → Paged old mid page [] (head ++ body_text db answer) → TakesFront mid new page
-    → TakesFront old new (session_text session [] (reply_of db answer))
-session_front old mid new db session answer before head page empty put leaves front =
-    subst (TakesFront old new) (reply_whole db session answer before head empty put)
-    (leaves_front old mid new page [] _ front leaves)
-
-pub session_more : (old new : Option (List ℕ)) (db : Database) (session : ℕ) (answer : Answer)
-    (before head : List ℕ) → before ≡ [] → head ≡ before ++ head_text db session answer
-    → TakesFront old new (head ++ body_text db answer)
-    → TakesFront old new (session_text session [] (reply_of db answer))
-session_more old new db session answer before head empty put front =
-    subst (TakesFront old new) (reply_whole db session answer before head empty put) front
+  -- the body was written, and the page went out
+  module _ (old mid new : Option (List ℕ)) (page : List ℕ)
+      (leaves : Paged old mid page [] (head ++ body_text db answer))
+    where
+      pub session_front : TakesFront mid new page → TakesFront old new (session_text session [] (reply_of db answer))
+      session_front front = session_more old new (leaves_front old mid new page [] _ front leaves)

@@ -1,5 +1,5 @@
 //! Replies on their way to a sink: a page of some tens of kilobytes at a time.
-ghost use Rattle.std.specs.Prelude.{◌≡◌, ◌≤◌, ◌++◌, [], length, decimal, OnOk, OnErr, IsErrOf};
+ghost use Rattle.std.specs.Prelude.{◌≡◌, ◌++◌, [], length, decimal, OnOk, OnErr};
 ghost use Rattle.dk_fault.specs.Causes.{HasCause};
 ghost use Rattle.dk_si.specs.Database.{present};
 ghost use Rattle.dk_script.specs.Meaning.{reply_of};
@@ -7,8 +7,8 @@ ghost use Rattle.dk_script.specs.Database.{rows_at};
 ghost use Rattle.dk_script.specs.Texts.{row_text, rows_text, session_text};
 ghost use Rattle.dk_script.specs.LastLine.{bad_line_text, last_line};
 ghost use Rattle.dk_script.specs.AnswerTexts.{head_text, body_text};
-ghost use Rattle.dk_script.specs.Paging.{PagesOut, IsOutputStop};
-ghost use Rattle.dk_script.specs.Sinks.{Sends, SendsFront, SinkFailed};
+ghost use Rattle.dk_script.specs.Paging.{MayStop, WritesText};
+ghost use Rattle.dk_script.specs.Sinks.{Sends, SendsFront};
 
 use crate::store::{Answer, Store};
 use crate::text::{put, put_counted, put_number, put_refusal, put_row};
@@ -24,9 +24,7 @@ fn send<K: Sink>(sink: &mut K, page: &mut Vec<u8>) -> Result<(), Status>
     ensures ok { OnOk result (Sends K.Sink sink.old sink.new page.old.items) }
     ensures empty { OnOk result (page.new.items ≡ []) }
     ensures err { OnErr result (SendsFront K.Sink sink.old sink.new page.old.items) }
-    ensures fault { IsErrOf result Status.WriteFault → SinkFailed K.Sink sink.old sink.new }
-    ensures stop { IsOutputStop result }
-    ensures later { K.faults sink.old ≤ K.faults sink.new }
+    ensures stops { MayStop K.Sink sink.old sink.new result }
 {
     match write_all(sink, page.as_slice()) {
         Ok(()) => {
@@ -40,11 +38,7 @@ fn send<K: Sink>(sink: &mut K, page: &mut Vec<u8>) -> Result<(), Status>
 /// Hands the page to the sink where it is full.
 #[tactic(auto, using(crate::proofs::PageLemmas::leaves_sent, crate::proofs::PageLemmas::leaves_kept))]
 fn send_full<K: Sink>(sink: &mut K, page: &mut Vec<u8>) -> Result<(), Status>
-    ensures ok { OnOk result (PagesOut K.Sink sink.old sink.new page.new.items page.old.items) }
-    ensures err { OnErr result (SendsFront K.Sink sink.old sink.new page.old.items) }
-    ensures fault { IsErrOf result Status.WriteFault → SinkFailed K.Sink sink.old sink.new }
-    ensures stop { IsOutputStop result }
-    ensures later { K.faults sink.old ≤ K.faults sink.new }
+    ensures { WritesText K.Sink sink.old sink.new page.new.items page.old.items result }
 {
     if page.len() < PAGE {
         return Ok(());
@@ -55,13 +49,8 @@ fn send_full<K: Sink>(sink: &mut K, page: &mut Vec<u8>) -> Result<(), Status>
 /// Puts a row on the page, and hands the page to the sink where it is full.
 #[tactic(auto, using(crate::proofs::PageLemmas::front_nothing))]
 fn write_row<K: Sink>(sink: &mut K, page: &mut Vec<u8>, row: &RowRef<'_>) -> Result<(), Status>
-    ensures ok { OnOk result (
-        PagesOut K.Sink sink.old sink.new page.new.items (page.old.items ++ row_text row.now)) }
-    ensures err { OnErr result (
-        SendsFront K.Sink sink.old sink.new (page.old.items ++ row_text row.now)) }
-    ensures fault { IsErrOf result Status.WriteFault → SinkFailed K.Sink sink.old sink.new }
-    ensures stop { IsOutputStop result }
-    ensures later { K.faults sink.old ≤ K.faults sink.new }
+    ensures { WritesText K.Sink sink.old sink.new
+        page.new.items (page.old.items ++ row_text row.now) result }
 {
     match put_row(page, row) {
         Ok(()) => send_full(sink, page),
@@ -71,13 +60,8 @@ fn write_row<K: Sink>(sink: &mut K, page: &mut Vec<u8>, row: &RowRef<'_>) -> Res
 
 /// Writes rows, a line each.
 fn write_rows<K: Sink>(sink: &mut K, page: &mut Vec<u8>, rows: &Rows) -> Result<(), Status>
-    ensures ok { OnOk result (
-        PagesOut K.Sink sink.old sink.new page.new.items (page.old.items ++ rows_text rows.now)) }
-    ensures err { OnErr result (
-        SendsFront K.Sink sink.old sink.new (page.old.items ++ rows_text rows.now)) }
-    ensures fault { IsErrOf result Status.WriteFault → SinkFailed K.Sink sink.old sink.new }
-    ensures stop { IsOutputStop result }
-    ensures later { K.faults sink.old ≤ K.faults sink.new }
+    ensures { WritesText K.Sink sink.old sink.new
+        page.new.items (page.old.items ++ rows_text rows.now) result }
 {
     'rows: for i in 0..rows.len() {
         write_row(sink, page, &rows.get(i))?;
@@ -123,13 +107,8 @@ fn write_body<K: Sink>(
     store: &Store,
     answer: Answer,
 ) -> Result<(), Status>
-    ensures ok { OnOk result (PagesOut
-        K.Sink sink.old sink.new page.new.items (page.old.items ++ body_text store.now answer)) }
-    ensures err { OnErr result (
-        SendsFront K.Sink sink.old sink.new (page.old.items ++ body_text store.now answer)) }
-    ensures fault { IsErrOf result Status.WriteFault → SinkFailed K.Sink sink.old sink.new }
-    ensures stop { IsOutputStop result }
-    ensures later { K.faults sink.old ≤ K.faults sink.new }
+    ensures { WritesText K.Sink sink.old sink.new
+        page.new.items (page.old.items ++ body_text store.now answer) result }
 {
     match answer {
         Answer::Rows { place } => match store.rows(place) {
@@ -155,9 +134,7 @@ pub fn write_reply<K: Sink>(
     ensures empty { OnOk result (page.new.items ≡ []) }
     ensures err { OnErr result (
         SendsFront K.Sink sink.old sink.new (session_text session [] (reply_of store.now answer))) }
-    ensures fault { IsErrOf result Status.WriteFault → SinkFailed K.Sink sink.old sink.new }
-    ensures stop { IsOutputStop result }
-    ensures later { K.faults sink.old ≤ K.faults sink.new }
+    ensures stops { MayStop K.Sink sink.old sink.new result }
 {
     match put_head(page, store, session, answer) {
         Ok(()) => {

@@ -1,5 +1,5 @@
 //! Blanks, words, numbers and signs of a statement's text. Each reader takes one from the front, and hands on the rest.
-ghost use Rattle.std.specs.Prelude.{◌≡◌, ◌<◌, ◌≤◌, length, bytes_eq, IfOk, IfSome, option_map};
+ghost use Rattle.std.specs.Prelude.{◌≡◌, ◌<◌, ◌≤◌, ◌==◌, true, false, length, take, drop, bytes_eq, IfOk, IfErr, OnOk, OnErr, IfSome, option_map};
 ghost use Rattle.std.specs.List.{prefix_len, list_any};
 ghost use Rattle.dk_script.specs.Readers.{Gives};
 ghost use Rattle.dk_script.specs.Words.{is_blank, is_digit, begins_word, continues_word, unblank, word_len, word_at, keyword_at, is_reserved, name_at, mark_at, value_in, number_at};
@@ -135,17 +135,28 @@ fn word_len(text: &[u8]) -> usize
     }
 }
 
+/// The first bytes of a text, at least one of them, and the rest.
+fn front(text: &[u8], len: usize) -> Result<(&[u8], &[u8]), ParseError>
+    requires { len ≤ length text.now }
+    ensures some { OnOk result ((len == 0) ≡ false) }
+    ensures front { IfOk result (λ x. x.0.now ≡ take len text.now) }
+    ensures rest { IfOk result (λ x. x.1.now ≡ drop len text.now) }
+    ensures none { OnErr result ((len == 0) ≡ true) }
+    ensures syntax { IfErr result (λ e. e ≡ ParseError.Syntax) }
+{
+    if len == 0 {
+        return Err(ParseError::Syntax);
+    }
+    Ok(text.split_at(len))
+}
+
 /// A word, its letters folded to lower case.
 pub fn word(alloc: Global, text: &[u8]) -> Result<(Bytes, &[u8]), ParseError>
     ensures exact { Gives (λ x. (x.0, x.1.now)) result (word_at text.now) }
     ensures shorter { IfOk result (λ x. length x.1.now < length text.now) }
 {
     let text = skip_blanks(text);
-    let len = word_len(text);
-    if len == 0 {
-        return Err(ParseError::Syntax);
-    }
-    let (word, rest) = text.split_at(len);
+    let (word, rest) = front(text, word_len(text))?;
     let folded: Vec<u8> = word.iter().map(|b| b.to_ascii_lowercase()).collect(alloc)?;
     Ok((List::from_vec(folded), rest))
 }
@@ -233,11 +244,7 @@ pub fn number(text: &[u8]) -> Result<(u64, &[u8]), ParseError>
     ensures shorter { IfOk result (λ x. length x.1.now < length text.now) }
 {
     let text = skip_blanks(text);
-    let len = leading_digits(text);
-    if len == 0 {
-        return Err(ParseError::Syntax);
-    }
-    let (digits, rest) = text.split_at(len);
+    let (digits, rest) = front(text, leading_digits(text))?;
     match value_of(digits) {
         Some(value) => Ok((value, rest)),
         None => Err(ParseError::Syntax),

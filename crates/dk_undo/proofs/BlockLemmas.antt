@@ -14,6 +14,7 @@ use denote.Param.{param, bounded}
 use Rattle.std.specs.Mem.{type_size}
 use Rattle.std.proofs.mem.Param.{El, R, elτ}
 use Rattle.std.proofs.alloc.Calls.{Al}
+use Rattle.dk_undo.specs.contracts.cells.Deed as D-type
 
 -- where the product fits a word, the count is zero or the size fits too
 pub uncapped : (i k : ℕ) → i * k < 2 ^ 64 → i * capped k ≡ i * k
@@ -39,3 +40,7 @@ module _ (E : El) (Z : Al) where
   -- the allocator's row
   abbrev pub P : RattleType
   P = param 1 Z.row
+
+  -- the row of the deed of a block
+  abbrev pub Dd : RattleType
+  Dd = D-type.the_row (R E) P Z.g

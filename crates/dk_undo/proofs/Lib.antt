@@ -5,3 +5,4 @@ pub mod PlaceLemmas
 pub mod MemoryLemmas
 pub mod PackedLemmas
 pub mod SharingLemmas
+pub mod WalkLemmas

@@ -1,9 +1,10 @@
 -- What the walks of the unsafe functions share. Assumes `Logic`.
 --     word_had, word_made, mark_had, mark_made      a value of one pointer, and one of no bytes
+--     place_had      a base and an index
 --     slot_out, slot_in, slot_seen      one place is taken out of the row, put back, or seen
 --     of_room, to_room      room for an array is a row of empty places
 use mathlib.Core.Path.{◌≡◌, refl, sym, ap, subst, ◌∙◌}
-use Prim.Native.Nat.{ℕ, zero, suc, ◌+◌, ◌*◌, ◌<◌, ◌≤◌}
+use Prim.Native.Nat.{ℕ, zero, suc, ◌+◌, ◌*◌, ◌<◌, ◌≤◌, ◌^◌}
 use native.Mathlib.Omega.{arith}
 use native.Mathlib.Nat.{zero-mul, suc-mul}
 use mathlib.Core.List.{List, [], ◌∷◌, ◌++◌}
@@ -11,14 +12,15 @@ use lib.ListN.{length, take, drop, set, get_or, replicate, take-append-drop, len
 use lib.Seq.{drop-cons, set_split}
 use seplogic.Ra.Ura.{Ura}
 use base.Fraction.{full_share}
-use mir.Syntax.{Ty, ty_array}
-use mir.Val.{Val, vstruct, vcons, vnil, of_list}
+use mir.Syntax.{Ty, ty_array, w64}
+use mir.Val.{Val, vint, vstruct, vcons, vnil, of_list}
 use base.Logic.{SProp, ent, sep, emp, ex, guard, via, snd∗, id⊢}
 use base.Fml.{Fml, Lft, ftrue, fsep, fat, froom}
 use types.Logic.{Logic, sem}
 use contract.Monad.{fact, fact_i}
-use types.Kit.{Item, Goal, Seq, Step, step, prop, ‵, raw, some, ◌⊛◌, ◌$◌, ◌∵◌, !, qed, by, move, keep, drop as skip, use0, use1, use2, pick, split, check, show, frame, fsplit, fjoin, fpick, fpack, feq_i, feq_l, rewrite, done}
+use types.Kit.{Item, Goal, Seq, Step, step, prop, ‵, raw, some, ◌⊛◌, ◌$◌, ◌∵◌, !, qed, by, move, keep, drop as skip, use0, use1, use2, pick, split, check, show, frame, fsplit, fjoin, fpick, fpack, feq_i, feq_l, flt_l, rewrite, done}
 use denote.RattleType.{RattleType, Valss}
+use denote.Builtin.{usize}
 use denote.Laws.{Typed, Is, shows}
 use denote.Param.{param, layout}
 use denote.Param.Laws.{Laws, param_laws}
@@ -80,6 +82,14 @@ module _ {M : Type 1} {𝓤 : Ura M} {𝓛 : Logic 𝓤} {K : Type 0} {Γ : List
   pub mark_had : K → (E : El) (vs : List Val) → (vs ≡ mark ∷ [] → Seq K 𝓛 Γ G) → Seq K 𝓛 (‵ ((Mark E).own_val (tt, tt) vs) ∷ Γ) G
   mark_had t E vs k = fpick t (λ vss. fsplit t $ feq_l t (λ ev. fsplit t $ fpick t (λ uss. fsplit t $ feq_l t (λ e. skip t $ skip t $
       k (subst (λ (ws : List Val). vs ≡ vstruct (of_list (ws ++ [])) ∷ []) e ev)))))
+
+module _ {M : Type 1} {𝓤 : Ura M} {𝓛 : Logic 𝓤} {K : Type 0} {Γ : List (Item 𝓤)} {G : Goal 𝓤 𝓛.H} where
+  -- a place is given as the base of its block and its index
+  pub place_had : {rest : Fml} → K → (c : Ptr) (index : ℕ) (us vs : List Val)
+      → (us ≡ word c ∷ [] → vs ≡ vint w64 index ∷ [] → index < 2 ^ 64 → Seq K 𝓛 (‵ rest ∷ Γ) G)
+      → Seq K 𝓛 (‵ (fsep (Word.own_val (c, tt) us) (fsep (usize.own_val index vs) rest)) ∷ Γ) G
+  place_had t c index us vs k =
+      fsplit t $ word_had t c us (λ e1. fsplit t $ fsplit t $ feq_l t (λ e2. flt_l t (λ fits. k e1 e2 fits)))
 
 module _ {M : Type 1} {𝓤 : Ura M} {𝓛 : Logic 𝓤} {K : Type 0} {Γ : List (Item 𝓤)} where
   -- an `ensures` of two facts

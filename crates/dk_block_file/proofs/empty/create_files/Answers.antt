@@ -3,7 +3,7 @@ use Rattle.std.specs.Prelude.{◌≡◌, ℕ, List, Option, length}
 use Rattle.std.proofs.Common.{option_map, subst, ap, ◌∙◌, arith}
 use Rattle.dk_device.specs.declared.device.FileId.TheVariants.{Main}
 use Rattle.dk_device.specs.Calls.{Stopped, Did, synced_write}
-use Rattle.dk_device.specs.Disk.{overlaid, TornWrite}
+use Rattle.dk_device.specs.Disk.{overlay, TornWrite}
 use Rattle.dk_device.proofs.CallLemmas.{makes_first, makes_second, makes_both}
 use Rattle.dk_device.proofs.ChangeLemmas.{earlier_then}
 use Rattle.dk_block_file.specs.Blocks.{empty_main}
@@ -20,10 +20,10 @@ returns-clause-files g c = record {
       c.in_ok-new_log.ensures.log c.write_synced.ensures.alone;
   main = record {
     written =
-        subst (λ (bytes : List ℕ). g.D.Disk.content c.write_synced.new.disk Main ≡ option_map (overlaid 0 bytes)
+        subst (λ (bytes : List ℕ). g.D.Disk.content c.write_synced.new.disk Main ≡ option_map (overlay 0 bytes)
         (g.D.Disk.content c.new_log.new.disk Main))
         c.requires c.in_ok-write_synced.ensures.written
-        ∙ ap (λ (o : Option (List ℕ)). option_map (overlaid 0 empty_main) o) c.new_log.ensures.alone.content;
+        ∙ ap (λ (o : Option (List ℕ)). option_map (overlay 0 empty_main) o) c.new_log.ensures.alone.content;
     synced = c.in_ok-write_synced.ensures.synced;
   };
   extent = omega (

@@ -4,37 +4,16 @@ use Rattle.std.proofs.Common.{subst}
 use Rattle.dk_device.specs.declared.device.FileId.TheVariants.{Main}
 use Rattle.dk_header.specs.Layout.{body_bytes}
 use Rattle.dk_block_file.specs.Effects.{WritesHeaders}
-use Rattle.dk_block_file.proofs.FlipLemmas.{body_shut, body_current, body_left, one_body_left}
+use Rattle.dk_block_file.proofs.FlipLemmas.{writes_body}
 use Rattle.dk_block_file.proofs.flip.flip_body.Goals as goal
 
 pub returns-clause-writes : goal.returns-clause-writes
 returns-clause-writes g c =
-    subst (λ (at : ℕ). WritesHeaders g.D.Disk at (body_bytes c.args.header.now) c.args.disk.now
+    writes_body g.D.Disk c.args.twin c.args.header.now c.args.disk.now c.write_headers.new.disk
+    c.write_headers.result c.requires.twin c.requires.headers
+    (subst (λ (at : ℕ). WritesHeaders g.D.Disk at (body_bytes c.args.header.now) c.args.disk.now
     c.write_headers.new.disk c.write_headers.result) c.header_place.ensures
     (subst (λ (bytes : List ℕ). WritesHeaders g.D.Disk c.header_place.result bytes c.args.disk.now
     c.write_headers.new.disk c.write_headers.result)
-    c.body_of-body.ensures.layout c.write_headers.ensures.writes)
-
-pub returns-clause-closed : goal.returns-clause-closed
-returns-clause-closed g c =
-    body_shut g.D.Disk c.args.twin c.args.header.now c.args.disk.now c.write_headers.new.disk
-    c.write_headers.result c.requires.twin c.requires.headers
-    (returns-clause-writes g c) c.requires.closed
-
-pub returns-clause-body : goal.returns-clause-body
-returns-clause-body g c =
-    body_left g.D.Disk c.args.twin c.args.header.now c.args.disk.now c.write_headers.new.disk
-    c.write_headers.result c.requires.twin c.requires.headers
-    (returns-clause-writes g c) (g.met.D.Disk.content_length c.args.disk.now Main)
-
-pub returns-clause-one_body : goal.returns-clause-one_body
-returns-clause-one_body g c =
-    one_body_left g.D.Disk c.args.twin c.args.header.now c.args.disk.now c.write_headers.new.disk
-    c.write_headers.result c.requires.twin c.requires.headers
-    (returns-clause-writes g c) (g.met.D.Disk.content_length c.args.disk.now Main)
-
-pub returns-clause-current : goal.returns-clause-current
-returns-clause-current g c =
-    body_current g.D.Disk c.args.twin c.args.header.now c.args.disk.now c.write_headers.new.disk
-    c.write_headers.result c.requires.twin c.requires.headers
-    (returns-clause-writes g c) c.requires.closed
+    c.body_of-body.ensures.layout c.write_headers.ensures.writes))
+    (g.met.D.Disk.content_length c.args.disk.now Main) c.requires.closed

@@ -1,3 +1,4 @@
+-- What was written so far is a front of the bytes.
 use Rattle.std.proofs.Common.{length, ◌-◌, ◌≤◌, take}
 use Rattle.std.specs.Io.KnownBytes.{Appends}
 use Rattle.dk_io.proofs.writing.write_all.Given as goal

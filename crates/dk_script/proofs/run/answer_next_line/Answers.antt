@@ -9,7 +9,7 @@ use Rattle.dk_script.proofs.run.answer_next_line.Goals as goal
 pub returns-in_err-answer_line-in-Ok-Line-clause-stop : goal.returns-in_err-answer_line-in-Ok-Line-clause-stop
 returns-in_err-answer_line-in-Ok-Line-clause-stop g c =
     let p = err_from_is_err_and c.from_residual.result c.from_residual.ensures.1 in
-    let reads = rw c.in-Ok-Line.field-0-is at c.in-Ok-Line.ensures.line in
+    let reads = rw c.in-Ok-Line.field-0-is at c.in-Ok-Line.ensures.goes_on.line in
     rw (p.1, p.2) (line_stops c.in_err-answer_line-in-Ok-Line.field-0.0 c.args.run.now c.answer_line.new.run
     c.next_line.new.self
     (g.S.Source.left c.args.source.now) (g.S.Source.left c.next_line.new.source) (g.K.Sink.taken c.args.sink.now)
@@ -18,7 +18,7 @@ returns-in_err-answer_line-in-Ok-Line-clause-stop g c =
 
 pub returns-in-Ok-End-clause-end : goal.returns-in-Ok-End-clause-end
 returns-in-Ok-End-clause-end g c same =
-    let reads = rw c.in-Ok-End.field-0-is at c.in-Ok-End.ensures.line in (
+    let reads = rw c.in-Ok-End.field-0-is at c.in-Ok-End.ensures.goes_on.line in (
       refl,
       end_popped c.args.run.now.reader c.next_line.new.self (g.S.Source.left c.args.source.now)
           (g.S.Source.left c.next_line.new.source) reads.pops,

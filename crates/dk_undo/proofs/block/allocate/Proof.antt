@@ -71,12 +71,11 @@ use Rattle.std.specs.Vec.Ownership.{FitsInBlock}
 use Rattle.std.specs.contracts.result.Result as RS
 use Rattle.std.specs.contracts.alloc.AllocError as AE
 use Rattle.std.proofs.alloc.Calls.{Al, second, Answer-typed, takes_key, Takes, at_takes, Answered, Takes-goes, Takes-gives, answers}
-use Rattle.dk_undo.proofs.BlockLemmas.{uncapped, block_ty, block_size, block_align, args, P}
+use Rattle.dk_undo.proofs.BlockLemmas.{uncapped, block_ty, block_size, block_align, args, P, Dd}
 use Rattle.std.proofs.VecSteps.Shapes.{head, arm_body}
 use Rattle.std.proofs.ResultValues.{ok_of, err_of}
 use Rattle.std.proofs.RcSteps.{first_Good}
 use Rattle.dk_undo.proofs.MemoryLemmas.{three_val, three_of, of_room}
-use Rattle.dk_undo.specs.contracts.cells.Deed as D-type
 use Rattle.dk_undo.specs.contracts.block.allocate as F
 use Rattle.dk_undo.specs.contracts.block.allocate.Key.{name as #self}
 use Rattle.dk_undo.proofs.block.allocate.Statement as stated
@@ -92,14 +91,11 @@ module _ (E : El) (Z : Al) where
   abbrev clauses : {M : Type 1} {𝓤 : Ura M} (𝓛 : Logic 𝓤) → (Memory → SProp 𝓤) → (Routine → Fun 𝓤) → Clauses 𝓤 ended
   clauses 𝓛 = F.clauses E.row Z.row Z.g Z.d Z.drops 𝓛
 
-  abbrev Dd : RattleType
-  Dd = D-type.the_row (R E) (P E Z) Z.g
-
   abbrev stayed : Stays ended.signature.params ended.kept
   stayed = (stay_dropped (RefOf (0 ∷ []) tt (plain (λ _. P E Z)) (λ _. tt)) yes, (stay_dropped (plain (λ _. usize)) yes, tt))
 
   abbrev Three : RattleType
-  Three = Tuple (Bs E ∷ Cr E ∷ Dd ∷ [])
+  Three = Tuple (Bs E ∷ Cr E ∷ Dd E Z ∷ [])
 
   abbrev Out : RattleType
   Out = RS.the_row Three AE.the_row

@@ -58,10 +58,9 @@ use types.ByLocal.{lands_last}
 use denote.Triple.Statement.{Triple}
 use denote.Triple.Call.{calls_at_last}
 use Rattle.std.proofs.alloc.Calls.{Al, second, token, gives_key, Gives, at_gives, Gives-goes, Gives-Gives}
-use Rattle.dk_undo.proofs.BlockLemmas.{uncapped, block_ty, block_size, block_align, args, P}
+use Rattle.dk_undo.proofs.BlockLemmas.{uncapped, block_ty, block_size, block_align, args, P, Dd}
 use Rattle.dk_undo.specs.Ownership.{deed_owns}
 use Rattle.dk_undo.proofs.MemoryLemmas.{to_room}
-use Rattle.dk_undo.specs.contracts.cells.Deed as D-type
 use Rattle.dk_undo.specs.contracts.block.deallocate as F
 use Rattle.dk_undo.specs.contracts.block.deallocate.Key.{name as #self}
 use Rattle.dk_undo.proofs.block.deallocate.Statement as stated
@@ -77,13 +76,10 @@ module _ (E : El) (Z : Al) where
   abbrev clauses : {M : Type 1} {𝓤 : Ura M} (𝓛 : Logic 𝓤) → (Memory → SProp 𝓤) → (Routine → Fun 𝓤) → Clauses 𝓤 ended
   clauses 𝓛 = F.clauses E.row Z.row Z.g Z.d Z.drops 𝓛
 
-  abbrev Dd : RattleType
-  Dd = D-type.the_row (R E) (P E Z) Z.g
-
   abbrev stayed : Stays ended.signature.params ended.kept
-  stayed = (stay_dropped (RefOf (0 ∷ []) tt (plain (λ _. P E Z)) (λ _. tt)) yes, (stay_dropped (plain (λ _. Bs E)) no, (stay_dropped (plain (λ _. usize)) yes, (stay_dropped (plain (λ _. Cr E)) no, (stay_dropped (plain (λ _. Dd)) no, tt)))))
+  stayed = (stay_dropped (RefOf (0 ∷ []) tt (plain (λ _. P E Z)) (λ _. tt)) yes, (stay_dropped (plain (λ _. Bs E)) no, (stay_dropped (plain (λ _. usize)) yes, (stay_dropped (plain (λ _. Cr E)) no, (stay_dropped (plain (λ _. Dd E Z)) no, tt)))))
 
-  abbrev Asks : Z.row.Denot → (Bs E).Denot → ℕ → (Cr E).Denot → Dd.Denot → Type 0
+  abbrev Asks : Z.row.Denot → (Bs E).Denot → ℕ → (Cr E).Denot → (Dd E Z).Denot → Type 0
   Asks a base len cells deed = (cells.at ≡ base.ptr) × (cells.slots ≡ replicate len None) × (deed.at ≡ base.ptr) × (deed.len ≡ len) × (deed.alloc ≡ a)
 
 module _ (E : El) (Z : Al) {M : Type 1} {𝓤 : Ura M} (𝓛 : Logic 𝓤) (at_mem : Memory → SProp 𝓤) (run : Routine → Fun 𝓤) (C : Calls 𝓤 𝓛.H) (Λ : Loops 𝓤 𝓛.H) (fm : FmC 𝓤 𝓛.H 𝓛.laws C)

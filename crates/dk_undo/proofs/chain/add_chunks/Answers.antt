@@ -1,3 +1,4 @@
+-- Chunks are added one by one, and given back where memory is missing.
 use Rattle.std.proofs.Common.{◌≡◌, drop, take, sym, ap, ◌∙◌, subst, arith}
 use Rattle.dk_undo.specs.Chain.{AreEmpty, Grows}
 use Rattle.dk_undo.proofs.PackedLemmas.{grows-nothing, grows-more, grows-drop, grows-take}

@@ -1,3 +1,4 @@
+-- The chunks that were added so far are empty and stand behind the others.
 use Rattle.dk_undo.specs.Chain.{Grows}
 use Rattle.dk_undo.proofs.chain.add_chunks.Given as goal
 

@@ -1,3 +1,4 @@
+-- Each chunk that is given back is empty.
 use Rattle.std.proofs.Common.{◌≤◌, drop, take, length, sym, ap, ◌∙◌, subst, arith}
 use Rattle.std.proofs.lemmas.List.{length_push}
 use Rattle.dk_undo.specs.Chain.{AreEmpty}

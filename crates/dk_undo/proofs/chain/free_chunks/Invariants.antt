@@ -1,3 +1,4 @@
+-- The chunks behind those that are kept are empty.
 use Rattle.std.proofs.Common.{◌≡◌, drop, take}
 use Rattle.dk_undo.specs.Chain.{AreEmpty}
 use Rattle.dk_undo.proofs.chain.free_chunks.Given as goal

@@ -1,3 +1,4 @@
+-- An entry goes into the first place that is empty.
 use Rattle.std.proofs.Common.{◌/◌, ◌%◌, [], ◌∷◌, ◌++◌, length, sym, ap, ◌∙◌, arith}
 use Rattle.dk_undo.proofs.PackedLemmas.{packed-at, put-packed, places-set}
 use Rattle.dk_undo.proofs.chain.put_last.Goals as goal

@@ -1,3 +1,4 @@
+-- The last entry leaves its place.
 use Rattle.std.proofs.Common.{◌+◌, ◌/◌, ◌%◌, length, sym, ap, ◌∙◌, arith}
 use Rattle.dk_undo.proofs.PackedLemmas.{packed-within, packed-at, take-packed, places-set}
 use Rattle.dk_undo.proofs.chain.take_last.Goals as goal

@@ -1,3 +1,4 @@
+-- Each turn takes an entry.
 use Rattle.std.proofs.Common.{length}
 use Rattle.dk_undo.proofs.tests.ends_without_dropping.Given as goal
 

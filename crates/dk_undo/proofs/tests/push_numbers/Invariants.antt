@@ -1,3 +1,4 @@
+-- There is room for the numbers that are left.
 use Rattle.std.proofs.Common.{◌-◌, ◌≤◌}
 use Rattle.dk_undo.proofs.tests.push_numbers.Given as goal
 

@@ -1,23 +1,12 @@
 -- What a sync of a disk in memory leaves to a crash.
-use Rattle.dk_device.proofs.OutcomeLemmas.{sync_content, sync_durable, sync_left, other_left, same_told, same_length, elapses}
+use Rattle.dk_device.specs.declared.calls.Request.TheVariants.{Sync}
+use Rattle.dk_device.proofs.OutcomeLemmas.{settles, makes_call}
 use Rattle.dk_device.proofs.memory.MemoryDiskDisk.sync.Goals as goal
 
-pub returns-clause-durable : goal.returns-clause-durable
-returns-clause-durable c = sync_durable _ _ _ _ c.perform.ensures.went
+pub returns-clause-settles : goal.returns-clause-settles
+returns-clause-settles c =
+    settles _ _ c.args.self.now c.perform.new.self c.perform.ensures.went
 
-pub returns-clause-content : goal.returns-clause-content
-returns-clause-content c =
-    same_told c.args.self.now.history c.perform.new.self.history (sync_content _ _ _ _ c.perform.ensures.went)
-
-pub returns-clause-extent : goal.returns-clause-extent
-returns-clause-extent c =
-    same_length c.args.self.now.history c.perform.new.self.history (sync_content _ _ _ _ c.perform.ensures.went)
-
-pub returns-clause-crash : goal.returns-clause-crash
-returns-clause-crash c = sync_left _ _ _ _ c.perform.ensures.went
-
-pub returns-clause-other_images : goal.returns-clause-other_images
-returns-clause-other_images c = other_left _ _ _ _ _ c.perform.ensures.went
-
-pub returns-clause-time : goal.returns-clause-time
-returns-clause-time c = elapses _ _ _ _ _ c.perform.ensures.went
+pub returns-clause-call : goal.returns-clause-call
+returns-clause-call c =
+    makes_call c.args.file Sync _ c.args.self.now c.perform.new.self c.perform.ensures.went c.perform.ensures.reason

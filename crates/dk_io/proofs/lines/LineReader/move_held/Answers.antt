@@ -1,3 +1,4 @@
+-- What is held up to a line feed moves to the line that has begun.
 use Rattle.std.proofs.Common.{◌≡◌, ◌≢◌, ℕ, List, ◌++◌, true, take, drop, ◌∙◌, ap, subst}
 use Rattle.std.specs.Prelude.{All}
 use Rattle.dk_io.specs.Lines.{kept_part, contents_after}

@@ -1,3 +1,4 @@
+-- What holds each time another piece is wanted.
 use Rattle.std.proofs.Common.{◌≡◌, ◌-◌, ◌≤◌, [], false}
 use Rattle.dk_io.specs.Lines.{is_too_long}
 use Rattle.dk_io.specs.NextLine.{KeepsLines, CountsOn}

@@ -1,3 +1,4 @@
+-- The bytes that were passed are no longer held.
 use Rattle.std.proofs.Common.{◌+◌, ◌-◌, ◌≤◌, length, drop, sym, ◌∙◌, ap, arith}
 use Rattle.std.proofs.lemmas.List.{length-take}
 use Rattle.dk_io.proofs.WindowLemmas.{window_moves}

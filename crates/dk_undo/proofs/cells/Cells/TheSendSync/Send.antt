@@ -1,3 +1,4 @@
+-- Places go to another thread where their values do.
 use denote.RattleType.{RattleType}
 use denote.Param.Send.{IsSend}
 use Rattle.dk_undo.proofs.SendSyncLemmas.{Cells-send}

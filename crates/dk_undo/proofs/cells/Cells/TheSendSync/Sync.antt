@@ -1,3 +1,4 @@
+-- Places are shared between threads where their values are.
 use denote.RattleType.{RattleType}
 use denote.Param.Send.{IsSync}
 use Rattle.dk_undo.proofs.SendSyncLemmas.{Cells-sync}

@@ -13,7 +13,7 @@ use base.Fml.{Lft, Share, ftrue, fat, flft}
 use prog.Wp.{Env, Calls, Loops, WpFn, Tables}
 use types.Logic.{Logic}
 use contract.Monad.{fact}
-use contract.Running.{tables, tables_of}
+use contract.Running.{tables_of}
 use sound.WpLaws.{WpFn-mono}
 use types.Kit.{Item, ⋆, ‵, ◌⊛◌, at_ret, ◌$◌, ◌∵◌, !, qed, by, move, keep, drop, use1, split, join, rewrite, fsplit, fjoin, feq_i, feq_l, suffices, frame, done}
 use types.Part.{whole, sub}
@@ -29,11 +29,9 @@ use denote.Builtin.{RefOf}
 use denote.Signature.{plain}
 use denote.Opens.{hide, unhide}
 use denote.Steps.{nothing}
-use denote.Triple.Carry.{spared}
 use denote.Triple.Clauses.{Clauses, Ended, closing}
 use denote.Triple.Entry.{on_entry}
-use denote.Triple.Spec.{Meets, triple_of}
-use denote.Triple.Table.{entered, run_framed}
+use denote.Triple.Spec.{Meets}
 use denote.Triple.Walked.{says, needs, Stays, stay_dropped, walk_of, ends_at, Goes-dropped, walk_Meets}
 use Rattle.std.proofs.VecSteps.Shapes.{after}
 use Rattle.std.proofs.RcSteps.{word, word-Good}
@@ -47,7 +45,8 @@ use Rattle.std.proofs.mem.Param.{El, R, args, el_x}
 use Rattle.std.proofs.ptr.Rows.{times_below, one_below}
 use Rattle.dk_undo.specs.Places.{IsFilled}
 use Rattle.dk_undo.specs.Ownership.{slot_lent, cells_lent}
-use Rattle.dk_undo.proofs.MemoryLemmas.{Cr, Bs, sz, Place, word_had, filled_within, slot_seen}
+use Rattle.dk_undo.proofs.WalkLemmas.{known, by_walk}
+use Rattle.dk_undo.proofs.MemoryLemmas.{Cr, Bs, sz, Place, place_had, filled_within, slot_seen}
 use Rattle.dk_undo.specs.contracts.cells.Cells.get.Key.{name as #self}
 use Rattle.dk_undo.proofs.cells.Cells.get.Statement as stated
 use Rattle.dk_undo.proofs.cells.Cells.get.Code as code
@@ -116,12 +115,9 @@ module _ (E : El) {M : Type 1} {𝓤 : Ura M} (𝓛 : Logic 𝓤) (C : Calls �
       fsplit ! $
       fsplit ! $ feq_l ! (λ e0.
       move ! (1 ∷ []) $
-      fsplit ! $
-      word_had ! base.ptr us1 (λ e1.
-      fsplit ! $
-      fsplit ! $ feq_l ! (λ e2. flt_l ! (λ fits_index.
+      place_had ! base.ptr index us1 us2 (λ e1 e2 fits_index.
       keep ! (1 ∷ 2 ∷ []) $
-      by ! (subst (λ (ws : List Val × List Val × List Val). ent 𝓤 (⋆ 𝓛 Had) (WpFn 𝓤 H C Λ (function E) (ws.0 ++ (ws.1 ++ (ws.2 ++ []))) Post)) (λ j. (sym e0 j, sym e1 j, sym e2 j)) (walk asked fits_index))))))
+      by ! (subst (λ (ws : List Val × List Val × List Val). ent 𝓤 (⋆ 𝓛 Had) (WpFn 𝓤 H C Λ (function E) (ws.0 ++ (ws.1 ++ (ws.2 ++ []))) Post)) (λ j. (sym e0 j, sym e1 j, sym e2 j)) (walk asked fits_index))))
 
 meets : (E : El) {M : Type 1} {𝓤 : Ura M} (𝓛 : Logic 𝓤) (𝓣 : Tables 𝓤 𝓛.H)
     → Meets 𝓛 (ended E).signature (WpFn 𝓤 𝓛.H 𝓣.C 𝓣.Λ (function E)) (closing 𝓛 (ended E) (spec E 𝓛))
@@ -133,8 +129,5 @@ pub get_spec : {M : Type 1} → stated.statement M
 unfolding tables_of
 get_spec 𝓤 𝓛 𝓜 𝓡 wired X LX y =
     let E : El = record { row = X; laws = LX } in
-    let 𝓣 : Tables 𝓤 𝓛.H = tables_of 𝓤 𝓛.H 𝓜 (tables 𝓤 𝓛.H 𝓜 𝓡 𝓡.env) in
-    let k = #self (args E) in
-    spared 𝓛 (ended E).signature (𝓡.run (𝓡.env k)) (run_framed 𝓤 𝓛.H 𝓜 𝓡 (𝓡.env k)) 1 (X.lives, tt) (closing 𝓛 (ended E) (spec E 𝓛))
-    (entered 𝓤 𝓛.H (triple_of 𝓛 (ended E).signature (closing 𝓛 (ended E) (spec E 𝓛))) 𝓣.C 𝓣.Λ k (function E) (code.unfolded 𝓤 𝓛.H 𝓜 𝓡 wired (X, tt)) (meets E 𝓛 𝓣))
-    ((y.0.0, y.0.1, tt, y.0.3, y.0.4), y.1)
+    by_walk 𝓤 𝓛 𝓜 𝓡 X (ended E) (spec E 𝓛) (#self (args E)) (function E) (code.unfolded 𝓤 𝓛.H 𝓜 𝓡 wired (X, tt))
+    (meets E 𝓛 (known 𝓤 𝓛 𝓜 𝓡)) ((y.0.0, y.0.1, tt, y.0.3, y.0.4), y.1)

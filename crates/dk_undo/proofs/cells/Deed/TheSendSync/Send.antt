@@ -1,3 +1,4 @@
+-- A deed goes to another thread where its allocator does.
 use denote.RattleType.{RattleType}
 use denote.Param.Send.{IsSend, Frees}
 use Rattle.std.specs.declared.alloc.Allocator.{Ghosts}

@@ -1,3 +1,4 @@
+-- A lent deed holds nothing.
 use denote.RattleType.{RattleType}
 use denote.Param.Send.{IsSync}
 use Rattle.std.specs.declared.alloc.Allocator.{Ghosts}

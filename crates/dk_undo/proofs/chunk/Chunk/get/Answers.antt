@@ -1,3 +1,4 @@
+-- The item at a place of a chunk.
 use Rattle.std.proofs.Common.{length, slice_get, sym, ap, ◌∙◌, arith}
 use Rattle.dk_undo.proofs.ChunkLemmas.{item_at, place_holds}
 use Rattle.dk_undo.proofs.chunk.Chunk.get.Goals as goal

@@ -1,3 +1,4 @@
+-- The places of a new block are empty.
 use Rattle.std.proofs.Common.{[], refl}
 use Rattle.dk_undo.proofs.ChunkLemmas.{laid_as}
 use Rattle.dk_undo.proofs.chunk.Chunk.new.Goals as goal

@@ -1,3 +1,4 @@
+-- An item goes into the first empty place of a chunk.
 use Rattle.std.proofs.Common.{length, sym, ap, ◌∙◌, ◌++◌, ◌∷◌, [], arith}
 use Rattle.std.proofs.lemmas.Option.{slice_get_past}
 use Rattle.dk_undo.proofs.ChunkLemmas.{place_holds, length-slots, put_into}

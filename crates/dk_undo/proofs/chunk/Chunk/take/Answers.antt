@@ -1,3 +1,4 @@
+-- The last item leaves its place in a chunk.
 use Rattle.std.proofs.Common.{length, sym, ap, ◌∙◌, arith}
 use Rattle.dk_undo.proofs.ChunkLemmas.{item_at, place_holds, taken_from}
 use Rattle.dk_undo.proofs.chunk.Chunk.take.Goals as goal

@@ -1,3 +1,4 @@
+-- The chunks of a stack without entries are empty.
 use Rattle.std.proofs.Common.{length, sym, ap, ◌∙◌}
 use Rattle.dk_undo.proofs.PackedLemmas.{length-entries, packed-empty}
 use Rattle.dk_undo.proofs.stack.UndoStack.destroy_empty.Goals as goal

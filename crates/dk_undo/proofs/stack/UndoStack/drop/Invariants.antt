@@ -1,3 +1,4 @@
+-- Each turn takes an entry.
 use Rattle.std.proofs.Common.{length}
 use Rattle.dk_undo.proofs.stack.UndoStack.drop.Given as goal
 

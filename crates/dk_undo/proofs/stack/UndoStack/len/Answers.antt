@@ -1,3 +1,4 @@
+-- The entries are as many as the places that are filled.
 use Rattle.std.proofs.Common.{length, sym, ap, ◌∙◌}
 use Rattle.dk_undo.proofs.PackedLemmas.{length-entries}
 use Rattle.dk_undo.proofs.stack.UndoStack.len.Goals as goal

@@ -1,3 +1,4 @@
+-- The place of an entry that is counted from the newest.
 use Rattle.std.proofs.Common.{◌≡◌, ℕ, ◌-◌, ◌/◌, ◌%◌, ◌<◌, length, slice_get, sym, ap, ◌∙◌, subst, arith}
 use Rattle.dk_undo.proofs.PackedLemmas.{length-entries, packed-within, entry-at}
 use Rattle.dk_undo.proofs.stack.UndoStack.newest.Goals as goal

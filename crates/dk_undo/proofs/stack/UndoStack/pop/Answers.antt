@@ -1,3 +1,4 @@
+-- The newest entry leaves the stack, and its room stays.
 use Rattle.std.proofs.Common.{refl, sym, ap, ◌∙◌, arith}
 use Rattle.dk_undo.proofs.PackedLemmas.{packed-within, packed-empty, entries-empty, length-placed}
 use Rattle.dk_undo.proofs.stack.UndoStack.pop.Goals as goal

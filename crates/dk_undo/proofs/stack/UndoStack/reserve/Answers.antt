@@ -1,3 +1,4 @@
+-- The chunks that are added give the room that was asked for.
 use Rattle.std.proofs.Common.{◌≡◌, ◌-◌, ◌*◌, length, ap, ◌∙◌, arith}
 use Rattle.dk_undo.specs.Stack.{stack, reserved}
 use Rattle.dk_undo.proofs.PackedLemmas.{packed-within, grows-length, grows-packed, grows-entries}

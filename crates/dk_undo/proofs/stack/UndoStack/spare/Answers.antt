@@ -1,3 +1,4 @@
+-- No more places are filled than there are.
 use Rattle.std.proofs.Common.{arith}
 use Rattle.dk_undo.proofs.PackedLemmas.{packed-within}
 use Rattle.dk_undo.proofs.stack.UndoStack.spare.Goals as goal

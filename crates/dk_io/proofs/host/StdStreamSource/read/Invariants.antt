@@ -1,10 +1,11 @@
+-- What holds between the tries of a read.
 use Rattle.std.proofs.Common.{◌≡◌}
 use Rattle.std.specs.Io.KnownBytes.{Keeps}
-use Rattle.dk_io.proofs.host.StdSourceSource.read.Given as goal
+use Rattle.dk_io.proofs.host.StdStreamSource.read.Given as goal
 
 -- a try that was broken off changed nothing
 abbrev pub invariant-tries : goal.invariant-tries
 invariant-tries g l = record {
   faults : l.self.faults ≡ l.fn.self.faults;
-  kept : Keeps (g.R.Read.remaining l.fn.self.reader) (g.R.Read.remaining l.self.reader);
+  kept : Keeps (g.R.Read.remaining l.fn.self.stream) (g.R.Read.remaining l.self.stream);
 }
