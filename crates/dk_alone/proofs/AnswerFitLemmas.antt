@@ -244,18 +244,8 @@ module _ (opened : List Table) (last : ℕ) (before : List Entry) (machine : Mac
       (answer_aborted kind)
   aborted_fits form.Rollback statement = quiet (aborted_answers form.Rollback) state.Aborted statement told.Ended refl
       refl
-  aborted_fits form.Begin statement = quiet (aborted_answers form.Begin) state.Aborted statement
-      (told.Refused why.Aborted) refl refl
-  aborted_fits form.Commit statement = quiet (aborted_answers form.Commit) state.Aborted statement
-      (told.Refused why.Aborted) refl refl
-  aborted_fits form.Checkpoint statement = quiet (aborted_answers form.Checkpoint) state.Aborted statement
-      (told.Refused why.Aborted) refl refl
-  aborted_fits form.Create statement = quiet (aborted_answers form.Create) state.Aborted statement
-      (told.Refused why.Aborted) refl refl
-  aborted_fits form.Select statement = quiet (aborted_answers form.Select) state.Aborted statement
-      (told.Refused why.Aborted) refl refl
-  aborted_fits form.Change statement = quiet (aborted_answers form.Change) state.Aborted statement
-      (told.Refused why.Aborted) refl refl
+  aborted_fits other statement = quiet (aborted_answers other) state.Aborted statement (told.Refused why.Aborted) refl
+      refl
 
   -- in an open transaction
   commit_fits : (transaction : Transaction) (statement : Statement) (net : List TableNet)

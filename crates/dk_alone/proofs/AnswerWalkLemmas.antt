@@ -15,7 +15,6 @@ use Rattle.dk_si.specs.declared.machine.Machine.{Machine}
 use Rattle.dk_si.specs.declared.machine.Session.{Session}
 use Rattle.dk_si.specs.declared.machine.Transaction.{Transaction}
 use Rattle.dk_si.specs.declared.machine.Transaction.TheVariants as state
-use Rattle.dk_si.specs.declared.standing.Standing.{Standing}
 use Rattle.dk_si.specs.Answer.{answer}
 use Rattle.dk_alone.specs.AnswerHistory.{is_call, calls_of, iteration_behind, iteration_after, transaction_at}
 use Rattle.dk_alone.specs.AnswerHistory.{will_begin, begun_next, reply_next, call_entries, answer_history, are_answered}
@@ -29,10 +28,11 @@ use Rattle.dk_si.specs.MayAnswer.{may_answer}
 use Rattle.dk_si.specs.OneThread.{OPEN_ROWS, is_open, is_spent_alone, is_step_alone, may_reply_alone, none_in_flight}
 use Rattle.dk_si.specs.OneThread.{open_count}
 use Rattle.dk_si.specs.Spent.{committed_rows, is_spent}
-use Rattle.dk_si.specs.Standing.{first_standing, standing_and, stands_on}
+use Rattle.dk_si.specs.Standing.{FullStanding, first_standing, standing_and, stands_on}
 use Rattle.dk_si.specs.StatesSince.{was_since_call, is_call_of}
 use Rattle.dk_si.specs.Weight.{cap}
 use Rattle.dk_alone.proofs.AnswerFitLemmas.{Fits, Spent, answer_fits, below_most, spent_numbers}
+use Rattle.dk_si.proofs.ShortSizeLemmas.{length_filter}
 use Rattle.dk_alone.proofs.FlightLemmas.{Busy, Idle, all_others, begun_in, busy_begun, busy_reply, called, idle_call}
 use Rattle.dk_alone.proofs.FlightLemmas.{idle_there}
 use Rattle.dk_si.proofs.ForwardLemmas.{since_and_one}
@@ -45,7 +45,7 @@ use Rattle.dk_alone.proofs.WalkLemmas.{walk_is_legal, walks}
 
 -- between two calls
 record Ready (opened : List Table) (it last : ℕ) (before : List Entry) (machine : Machine)
-    (standing : Standing) : Type 0 where
+    (standing : FullStanding) : Type 0 where
   line : Line opened before machine
   bounded : Bounded machine
   idle : Idle machine standing
@@ -53,7 +53,7 @@ record Ready (opened : List Table) (it last : ℕ) (before : List Entry) (machin
   calm : Calm standing
 
 -- a call is in flight, and what is so now was so since it
-record Wait (opened : List Table) (it last : ℕ) (before : List Entry) (machine : Machine) (standing : Standing)
+record Wait (opened : List Table) (it last : ℕ) (before : List Entry) (machine : Machine) (standing : FullStanding)
     (number : ℕ) (session : Session) (asked : Asked) : Type 0 where
   line : Line opened before machine
   bounded : Bounded machine
@@ -83,7 +83,7 @@ was_now opened before machine entry number line test is =
     (ap (λ m. test (next opened m entry)) line.reached ∙ is)
 
 -- a lawful call may come, and is in flight behind it
-record Calls (opened : List Table) (it last : ℕ) (before : List Entry) (machine : Machine) (standing : Standing)
+record Calls (opened : List Table) (it last : ℕ) (before : List Entry) (machine : Machine) (standing : FullStanding)
     (number : ℕ) (asked : Asked) : Type 0 where
   goes_well : goes opened it before machine standing (history.Call number asked) ≡ true
   session : Session
@@ -91,7 +91,7 @@ record Calls (opened : List Table) (it last : ℕ) (before : List Entry) (machin
       (next opened machine (history.Call number asked)) (standing_and it standing (history.Call number asked)) number
       session asked
 
-call_goes : (opened : List Table) (it last : ℕ) (before : List Entry) (machine : Machine) (standing : Standing)
+call_goes : (opened : List Table) (it last : ℕ) (before : List Entry) (machine : Machine) (standing : FullStanding)
     (number : ℕ) (asked : Asked)
     → Ready opened it last before machine standing → is_call (number, asked) ≡ true
     → Calls opened it last before machine standing number asked
@@ -127,7 +127,7 @@ call_goes opened it last before machine standing number asked ready may =
     }
 
 -- the session as one that has the call in flight
-asked_session : (machine : Machine) (standing : Standing) (number : ℕ) (session : Session) (asked : Asked) (place : ℕ)
+asked_session : (machine : Machine) (standing : FullStanding) (number : ℕ) (session : Session) (asked : Asked) (place : ℕ)
     → Busy machine standing number session asked place
     → session_at machine.sessions number ≡ Some (session_of session.transaction
     (Some asked) session.writes session.last)
@@ -135,14 +135,14 @@ asked_session machine standing number session asked place busy =
     busy.is ∙ ap (λ call. Some (session_of session.transaction call session.writes session.last)) busy.call
 
 -- a transaction begins
-record Begins (opened : List Table) (it last : ℕ) (before : List Entry) (machine : Machine) (standing : Standing)
+record Begins (opened : List Table) (it last : ℕ) (before : List Entry) (machine : Machine) (standing : FullStanding)
     (number : ℕ) (session : Session) (asked : Asked) : Type 0 where
   goes_well : goes opened it before machine standing (begun_next machine number) ≡ true
   wait : Wait opened it last (before ++ begun_next machine number ∷ [])
       (next opened machine (begun_next machine number)) (standing_and it standing (begun_next machine number)) number
       (begun_in machine.begun (length machine.commits) session) asked
 
-begin_goes : (opened : List Table) (it last : ℕ) (before : List Entry) (machine : Machine) (standing : Standing)
+begin_goes : (opened : List Table) (it last : ℕ) (before : List Entry) (machine : Machine) (standing : FullStanding)
     (number : ℕ) (session : Session) (asked : Asked)
     → Wait opened it last before machine standing number session asked
     → (asks_for begins_one (Some asked) && is_outside session.transaction) ≡ true
@@ -182,15 +182,6 @@ begin_goes opened it last before machine standing number session asked wait asks
     }
 
 -- where no transaction of one thread can begin, none of any can
-length_filter : {T : Type 0} → (P : T → Bool) (xs : List T) → length (filter P xs) ≤ length xs
-length_filter P [] = omega arith
-length_filter P (x ∷ xs) = kept (P x) (length_filter P xs)
-  where
-    kept : (b : Bool) → length (filter P xs) ≤ length xs
-        → length (if b then x ∷ filter P xs else filter P xs) ≤ length (x ∷ xs)
-    kept true le = omega (arith, le)
-    kept false le = omega (arith, le)
-
 fewer : {T : Type 0} → (P : T → Bool) (xs : List T) (k : ℕ) (x : T) → slice_get xs k ≡ Some x → P x ≡ false
     → length (filter P xs) < length xs
 fewer P [] k x at off = cc
@@ -235,7 +226,7 @@ spent_for_all opened machine number session bounded is outside spent =
     (or_cases (machine.begun == MAX_TRANSACTIONS) (nat_lt MAX_ROWS (rows + OPEN_ROWS * (open_count machine + 1))) spent)
 
 -- the answer may come, and behind it no call is in flight
-record Answered (opened : List Table) (it last : ℕ) (before : List Entry) (machine : Machine) (standing : Standing)
+record Answered (opened : List Table) (it last : ℕ) (before : List Entry) (machine : Machine) (standing : FullStanding)
     (number : ℕ) (reply : Reply) : Type 0 where
   goes_well : goes opened it before machine standing (history.Reply number reply) ≡ true
   ready : Ready opened it (iteration_behind last reply) (before ++ history.Reply number reply ∷ [])
@@ -243,7 +234,7 @@ record Answered (opened : List Table) (it last : ℕ) (before : List Entry) (mac
       (standing_and it standing (history.Reply number reply))
   plain : is_plain_entry machine (history.Reply number reply) ≡ true
 
-fit_goes : (opened : List Table) (it last : ℕ) (before : List Entry) (machine : Machine) (standing : Standing)
+fit_goes : (opened : List Table) (it last : ℕ) (before : List Entry) (machine : Machine) (standing : FullStanding)
     (number : ℕ) (session : Session) (asked : Asked) (reply : Reply)
     → Wait opened it last before machine standing number session asked
     → Fits (may_answer opened machine.commits session.transaction asked) opened last before machine number
@@ -282,7 +273,7 @@ fit_goes opened it last before machine standing number session asked reply wait 
           is ∙ fits.plain;
     }
 
-reply_goes : (opened : List Table) (it last : ℕ) (before : List Entry) (machine : Machine) (standing : Standing)
+reply_goes : (opened : List Table) (it last : ℕ) (before : List Entry) (machine : Machine) (standing : FullStanding)
     (number : ℕ) (session : Session) (asked : Asked) (reply : Reply)
     → reply ≡ answer opened last machine number session.transaction asked
     → Wait opened it last before machine standing number session asked
@@ -306,12 +297,12 @@ found_transaction machine number session is =
     ap (λ found. elim found as (λ x. Transaction) [ None ↦ state.Outside | Some session ↦ session.transaction ]) is
 
 -- entries that may come one after the other, and whose replies are plain
-record Passes (opened : List Table) (it : ℕ) (before : List Entry) (machine : Machine) (standing : Standing)
+record Passes (opened : List Table) (it : ℕ) (before : List Entry) (machine : Machine) (standing : FullStanding)
     (entries : List Entry) : Type 0 where
   walk : walks opened it before machine standing entries ≡ true
   plain : are_plain opened machine entries ≡ true
 
-passes_one : (opened : List Table) (it : ℕ) (before : List Entry) (machine : Machine) (standing : Standing)
+passes_one : (opened : List Table) (it : ℕ) (before : List Entry) (machine : Machine) (standing : FullStanding)
     (entry : Entry) (entries : List Entry)
     → goes opened it before machine standing entry ≡ true → is_plain_entry machine entry ≡ true
     → Passes opened it (before ++ entry ∷ []) (next opened machine entry) (standing_and it standing entry) entries
@@ -326,11 +317,11 @@ passes_one opened it before machine standing entry entries goes_well plain rest 
 
 -- so do the answers to these calls from each state between two calls
 abbrev Walks : List Table → ℕ → List (ℕ × Asked) → Type 0
-Walks opened it calls = (last : ℕ) (before : List Entry) (machine : Machine) (standing : Standing)
+Walks opened it calls = (last : ℕ) (before : List Entry) (machine : Machine) (standing : FullStanding)
     → Ready opened it last before machine standing
     → Passes opened it before machine standing (answer_history opened last machine calls)
 
-reply_walks : (opened : List Table) (it last : ℕ) (before : List Entry) (machine : Machine) (standing : Standing)
+reply_walks : (opened : List Table) (it last : ℕ) (before : List Entry) (machine : Machine) (standing : FullStanding)
     (number : ℕ) (session : Session) (asked : Asked) (calls : List (ℕ × Asked))
     → Wait opened it last before machine standing number session asked
     → Spent opened last before machine number session.writes session.last (asks_for begins_one (Some asked)
@@ -359,7 +350,7 @@ entries_if opened last machine number asked begins =
     asked ∷ []
     else reply_next opened last machine number asked ∷ []
 
-walks_if : (opened : List Table) (it last : ℕ) (before : List Entry) (machine : Machine) (standing : Standing)
+walks_if : (opened : List Table) (it last : ℕ) (before : List Entry) (machine : Machine) (standing : FullStanding)
     (number : ℕ) (session : Session) (asked : Asked) (calls : List (ℕ × Asked))
     → Wait opened it last before machine standing number session asked → Walks opened it calls
     → (b : Bool) → ((asks_for begins_one (Some asked) && is_outside session.transaction) && not

@@ -3,7 +3,7 @@ use Rattle.std.proofs.Common.{◌≡◌, ⊎_elim, ℕ, zero, suc, ◌-◌, ◌<
 use Rattle.std.proofs.Common.{Option, Some, None, ap, ◌∙◌, sym, refl, subst, arith, slice_get, slice_set}
 use Rattle.std.specs.Prelude.{not, is_none, nat_lt, if◌then◌else◌}
 use Rattle.std.specs.List.{list_all, filter}
-use Rattle.std.proofs.lemmas.Bool.{false≢true, and_from, and_parts, eq-eqb, ne_eqb, cases_eq}
+use Rattle.std.proofs.lemmas.Bool.{false≢true, and_from, and_parts, eq-eqb, cases_eq}
 use Rattle.std.proofs.lemmas.Option.{same_Some}
 use Rattle.std.proofs.lemmas.List.Folds.{list_all-append}
 use Rattle.dk_types.specs.declared.reply.Reply.{Reply}
@@ -18,15 +18,15 @@ use Rattle.dk_si.specs.declared.machine.Transaction.{Transaction}
 use Rattle.dk_si.specs.declared.machine.Transaction.TheVariants as state
 use Rattle.dk_si.specs.declared.machine.WriteSet.{WriteSet}
 use Rattle.dk_si.specs.declared.standing.Flight.{Flight}
-use Rattle.dk_si.specs.declared.standing.Standing.{Standing}
 use Rattle.dk_si.specs.declared.standing.Written.{Written}
 use Rattle.dk_si.specs.Exchanges.{is_checkpoint}
 use Rattle.dk_si.specs.IsStep.{may_begin, may_call, may_reply, if_there}
-use Rattle.dk_si.specs.Machine.{after_begin, after_call, after_reply, asks_for, begins_one, next, others, session_at}
+use Rattle.dk_si.specs.Machine.{after_reply, asks_for, begins_one, next, others, session_at}
 use Rattle.dk_si.specs.OneThread.{none_in_flight}
-use Rattle.dk_si.specs.Standing.{is_of, standing_and}
+use Rattle.dk_si.specs.Standing.{FullStanding, is_of, standing_and}
 use Rattle.dk_si.proofs.FreshLemmas.{other_idle}
 use Rattle.dk_si.proofs.PlaceLemmas.{found_at}
+use Rattle.dk_si.proofs.SessionStepLemmas.{is_there, next_begun, next_call, next_reply, session_set}
 use Rattle.dk_si.proofs.TransitionLemmas.{session_of}
 
 abbrev pub is_idle : Session → Bool
@@ -41,12 +41,12 @@ flight_of place number asked = record {
 }
 
 -- no call is in flight
-pub record Idle (machine : Machine) (standing : Standing) : Type 0 where
+pub record Idle (machine : Machine) (standing : FullStanding) : Type 0 where
   pub all : list_all is_idle machine.sessions ≡ true
   pub flights : standing.flights ≡ []
 
 -- the session's call, at that place, is in flight, and no other
-pub record Busy (machine : Machine) (standing : Standing) (number : ℕ) (session : Session) (asked : Asked)
+pub record Busy (machine : Machine) (standing : FullStanding) (number : ℕ) (session : Session) (asked : Asked)
     (place : ℕ) : Type 0 where
   pub is : session_at machine.sessions number ≡ Some session
   pub call : session.asked ≡ Some asked
@@ -101,21 +101,6 @@ all_set P (x ∷ xs) (suc n) new front rest is =
     let h = and_parts (P x) (list_all P (take n xs)) front in
     and_from (P x) (list_all P (slice_set xs n new)) h.0 (all_set P xs n new h.1 rest is)
 
-pub set_there : {T : Type 0} → (xs : List T) (n : ℕ) (old new : T) → slice_get xs n ≡ Some old
-    → slice_get (slice_set xs n new) n ≡ Some new
-set_there [] n old new at = cc
-set_there (x ∷ xs) zero old new at = refl
-set_there (x ∷ xs) (suc n) old new at = set_there xs n old new at
-
-pub session_set : (sessions : List Session) (number : ℕ) (old new : Session) → session_at sessions number ≡ Some old
-    → session_at (slice_set sessions (number - 1) new) number ≡ Some new
-session_set sessions number old new is =
-    let h = found_at sessions number old is in
-    let above = h.1 in
-    ap (λ (b : Bool). if b then None else slice_get (slice_set sessions (number - 1) new) (number - 1))
-    (ne_eqb number 0 (λ same. absurd (omega (arith, above, same))))
-    ∙ set_there sessions (number - 1) old new h.0
-
 pub idle_set : (sessions : List Session) (number : ℕ) (new : Session) → 0 < number
     → list_all is_idle (others sessions number) ≡ true → is_idle new ≡ true
     → list_all is_idle (slice_set sessions (number - 1) new) ≡ true
@@ -124,51 +109,11 @@ idle_set sessions number new above all is =
     let h = and_parts _ _ (sym (list_all-append is_idle (take (number - 1) sessions) (drop number sessions)) ∙ all) in
     all_set is_idle sessions (number - 1) new h.0 (subst (λ n. list_all is_idle (drop n sessions) ≡ true) same h.1) is
 
--- a session that passes a test is there
-pub record There (test : Session → Bool) (found : Option Session) : Type 0 where
-  pub session : Session
-  pub is : found ≡ Some session
-  pub passes : test session ≡ true
-
-pub is_there : (test : Session → Bool) (found : Option Session) → if_there test found ≡ true → There test found
-is_there test None e = absurd (false≢true e)
-is_there test (Some session) e = record { session = session; is = refl; passes = e }
-
--- the state behind an entry of a session that is there
-pub next_call : (opened : List Table) (machine : Machine) (number : ℕ) (asked : Asked) (session : Session)
-    → session_at machine.sessions number ≡ Some session
-    → next opened machine (history.Call number asked) ≡ after_call machine number asked session
-next_call opened machine number asked session is =
-    ap (λ found. elim found as (λ x. Machine) [
-      | None ↦ machine
-      | Some before ↦ after_call machine number asked before
-    ]) is
-
-pub next_begun : (opened : List Table) (machine : Machine) (session number start : ℕ) (before : Session)
-    → session_at machine.sessions session ≡ Some before
-    → next opened machine (history.Begun session number start) ≡ after_begin machine session number start before
-next_begun opened machine session number start before is =
-    ap (λ found. elim found as (λ x. Machine) [
-      | None ↦ machine
-      | Some before ↦ after_begin machine session number
-          start before
-    ]) is
-
-pub next_reply : (opened : List Table) (machine : Machine) (number : ℕ) (reply : Reply) (session : Session)
-    → session_at machine.sessions number ≡ Some session
-    → next opened machine (history.Reply number reply) ≡ after_reply opened machine number session reply
-next_reply opened machine number reply session is =
-    ap (λ found. elim found as (λ x. Machine) [
-      | None ↦ machine
-      | Some before ↦ after_reply opened machine number
-          before reply
-    ]) is
-
 abbrev pub called : Asked → Session → Session
 called asked session = record session { asked = Some asked; last = None }
 
 -- a call behind which it is in flight
-pub idle_call : (opened : List Table) (it : ℕ) (machine : Machine) (standing : Standing) (number : ℕ) (asked : Asked)
+pub idle_call : (opened : List Table) (it : ℕ) (machine : Machine) (standing : FullStanding) (number : ℕ) (asked : Asked)
     (session : Session)
     → Idle machine standing → session_at machine.sessions number ≡ Some session
     → list_all (λ (written : Written). nat_lt written.place standing.place) standing.written ≡ true
@@ -195,7 +140,7 @@ begun_in number start session = record session {
 }
 
 -- behind a transaction that begins, the call is still in flight
-pub busy_begun : (opened : List Table) (it : ℕ) (machine : Machine) (standing : Standing) (session : Session)
+pub busy_begun : (opened : List Table) (it : ℕ) (machine : Machine) (standing : FullStanding) (session : Session)
     (asked : Asked) (place : ℕ) (at number start : ℕ)
     → Busy machine standing at session asked place
     → Busy (next opened machine (history.Begun at number start)) (standing_and it standing
@@ -233,7 +178,7 @@ only_flight number place asked =
     ap (λ (b : Bool). if not b then flight_of place number asked ∷ [] else []) (eq-eqb number number refl)
 
 -- behind its reply no call is in flight
-pub busy_reply : (opened : List Table) (it : ℕ) (machine : Machine) (standing : Standing) (number : ℕ)
+pub busy_reply : (opened : List Table) (it : ℕ) (machine : Machine) (standing : FullStanding) (number : ℕ)
     (session : Session) (asked : Asked) (place : ℕ) (reply : Reply)
     → Busy machine standing number session asked place
     → Idle (next opened machine (history.Reply number reply)) (standing_and it standing (history.Reply number reply))
@@ -248,7 +193,7 @@ busy_reply opened it machine standing number session asked place reply busy =
     })
 
 -- an entry of a session while no other has a call in flight is one of the session whose call is
-pub same_session : (machine : Machine) (standing : Standing) (number : ℕ) (session : Session) (asked : Asked)
+pub same_session : (machine : Machine) (standing : FullStanding) (number : ℕ) (session : Session) (asked : Asked)
     (place : ℕ) (at : ℕ) (other : Session)
     → Busy machine standing number session asked place → none_in_flight machine at ≡ true
     → session_at machine.sessions at ≡ Some other → number ≡ at
@@ -263,7 +208,7 @@ same_session machine standing number session asked place at other busy alone is 
     (cases_eq number at)
 
 -- the session whose call is in flight makes no other
-pub busy_call : (machine : Machine) (standing : Standing) (number : ℕ) (session : Session) (asked : Asked) (place : ℕ)
+pub busy_call : (machine : Machine) (standing : FullStanding) (number : ℕ) (session : Session) (asked : Asked) (place : ℕ)
     (at : ℕ) (also : Asked)
     → Busy machine standing number session asked place → none_in_flight machine at ≡ true
     → if_there (may_call also) (session_at machine.sessions at) ≡ true → ⊥
@@ -284,7 +229,7 @@ idle_at (first ∷ sessions) zero session all at =
 idle_at (first ∷ sessions) (suc k) session all at = idle_at sessions k session (and_parts (is_idle first)
     (list_all is_idle sessions) all).1 at
 
-pub idle_there : (machine : Machine) (standing : Standing) (number : ℕ) (session : Session) → Idle machine standing
+pub idle_there : (machine : Machine) (standing : FullStanding) (number : ℕ) (session : Session) → Idle machine standing
     → session_at machine.sessions number ≡ Some session
     → is_idle session ≡ true
 idle_there machine standing number session idle is =
@@ -296,7 +241,7 @@ none_asked : (test : Asked → Bool) (asked : Option Asked) → is_none asked �
 none_asked test None none e = false≢true e
 none_asked test (Some a) none e = false≢true none
 
-pub idle_begun : (machine : Machine) (standing : Standing) (session number start : ℕ) → Idle machine standing
+pub idle_begun : (machine : Machine) (standing : FullStanding) (session number start : ℕ) → Idle machine standing
     → if_there (may_begin machine number start) (session_at machine.sessions session) ≡ true → ⊥
 idle_begun machine standing session number start idle may =
     let there = is_there (may_begin machine number start) (session_at machine.sessions session) may in
@@ -307,7 +252,7 @@ idle_begun machine standing session number start idle may =
     asks_none None none e = false≢true e
     asks_none (Some a) none e = false≢true none
 
-pub idle_reply : (opened : List Table) (before : List Entry) (machine : Machine) (standing : Standing) (number : ℕ)
+pub idle_reply : (opened : List Table) (before : List Entry) (machine : Machine) (standing : FullStanding) (number : ℕ)
     (reply : Reply) → Idle machine standing
     → if_there (may_reply opened number before machine reply) (session_at machine.sessions number) ≡ true → ⊥
 idle_reply opened before machine standing number reply idle may =

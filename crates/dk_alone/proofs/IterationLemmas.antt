@@ -29,14 +29,13 @@ use Rattle.dk_si.specs.declared.standing.Cause.{Cause}
 use Rattle.dk_si.specs.declared.standing.Cause.TheVariants.{Iteration}
 use Rattle.dk_si.specs.declared.standing.Flight.{Flight}
 use Rattle.dk_si.specs.declared.standing.Need.{Need}
-use Rattle.dk_si.specs.declared.standing.Standing.{Standing}
 use Rattle.dk_si.specs.declared.standing.Written.{Written}
 use Rattle.dk_alone.specs.AnswerHistory.{iteration_behind}
 use Rattle.dk_si.specs.Exchanges.{is_checkpoint}
 use Rattle.dk_si.specs.Machine.{asks_for, kind_of}
 use Rattle.dk_si.specs.MayAnswer.{may_answer, outside_answers, aborted_answers, open_answers, commit_answers}
 use Rattle.dk_si.specs.ReplyTests.{has_no_iteration, is_stop, iteration_of}
-use Rattle.dk_si.specs.Standing.{first_standing, is_of, may_end, may_end_all, may_pay, are_payable, iterates}
+use Rattle.dk_si.specs.Standing.{FullStanding, first_standing, is_of, may_end, may_end_all, may_pay, are_payable, iterates}
 use Rattle.dk_si.specs.Standing.{comes_after, is_only, is_calling, first_stop, is_settled, needs_after, needs_by, owes}
 use Rattle.dk_si.specs.Standing.{owes_iteration, pays, standing_and, stands_on, stopped_after, written_after}
 use Rattle.dk_si.specs.Standing.{written_at, written_by}
@@ -102,7 +101,7 @@ told_iteration opened commits (state.Open active) (Good statement) n e = absurd
     (open_iteration opened commits active statement (kind_of statement) n e)
 
 -- the last iteration is the opened one, or a checkpoint was answered it, and all others are smaller
-pub record Counts (it last : ℕ) (standing : Standing) : Type 0 where
+pub record Counts (it last : ℕ) (standing : FullStanding) : Type 0 where
   pub above : it ≤ last
   pub within : last ≤ MAX_ITERATION
   pub most : list_all (λ (written : Written). nat_le written.iteration last) standing.written ≡ true
@@ -127,7 +126,7 @@ later_place place all early =
     (λ written h. let less = ltb-true written.place place h in lt-ltb written.place (place + 1) (omega (arith, less)))
     early
 
-pub counts_call : (it last : ℕ) (standing : Standing) (number : ℕ) (asked : Asked) → Counts it last standing
+pub counts_call : (it last : ℕ) (standing : FullStanding) (number : ℕ) (asked : Asked) → Counts it last standing
     → Counts it last (standing_and it standing (history.Call number asked))
 counts_call it last standing number asked counts = record {
   above = counts.above;
@@ -137,7 +136,7 @@ counts_call it last standing number asked counts = record {
   told = counts.told;
 }
 
-pub counts_begun : (it last : ℕ) (standing : Standing) (session number start : ℕ) → Counts it last standing
+pub counts_begun : (it last : ℕ) (standing : FullStanding) (session number start : ℕ) → Counts it last standing
     → Counts it last (standing_and it standing (history.Begun session number start))
 counts_begun it last standing session number start counts = record {
   above = counts.above;
@@ -148,10 +147,10 @@ counts_begun it last standing session number start counts = record {
 }
 
 -- what stands while the one call is in flight
-abbrev flying : Standing → ℕ → ℕ → Asked → Standing
+abbrev flying : FullStanding → ℕ → ℕ → Asked → FullStanding
 flying standing place number asked = record standing { flights = flight_of place number asked ∷ [] }
 
-flying_is : (machine : Machine) (standing : Standing) (number : ℕ) (session : Session) (asked : Asked) (place : ℕ)
+flying_is : (machine : Machine) (standing : FullStanding) (number : ℕ) (session : Session) (asked : Asked) (place : ℕ)
     → Busy machine standing number session asked place
     → standing ≡ flying standing place number asked
 flying_is machine standing number session asked place busy = ap (λ flights. record standing { flights = flights })
@@ -161,7 +160,7 @@ flying_is machine standing number session asked place busy = ap (λ flights. rec
 abbrev told_by : Asked → Reply → Option ℕ
 told_by asked reply = if asks_for is_checkpoint (Some asked) then iteration_of reply else None
 
-written_is : (standing : Standing) (place number : ℕ) (asked : Asked) (reply : Reply)
+written_is : (standing : FullStanding) (place number : ℕ) (asked : Asked) (reply : Reply)
     → written_after (flying standing place number asked) number reply
     ≡ standing.written ++ written_at standing.place (flight_of place number asked) (told_by asked reply)
 written_is standing place number asked reply =
@@ -171,9 +170,9 @@ written_is standing place number asked reply =
     (ap (λ (b : Bool). (if b then own else []) ++ []) (eq-eqb number number refl) ∙ append-nil own)
 
 -- the record of the last iteration behind the reply
-counts_none : (it last : ℕ) (standing : Standing) → Counts it last standing → (place : ℕ) → place ≡ standing.place + 1
+counts_none : (it last : ℕ) (standing : FullStanding) → Counts it last standing → (place : ℕ) → place ≡ standing.place + 1
     → (written : List Written) → written ≡ standing.written ++ []
-    → (after : Standing) → after.written ≡ written → after.place ≡ place → Counts it last after
+    → (after : FullStanding) → after.written ≡ written → after.place ≡ place → Counts it last after
 counts_none it last standing counts place next written is after same at =
     let all : after.written ≡ standing.written = same ∙ (is ∙ append-nil standing.written) in
     record {
@@ -189,8 +188,8 @@ counts_none it last standing counts place next written is after same at =
           (sym all) counts.told;
     }
 
-counts_some : (it last n called : ℕ) (standing : Standing) → Counts it last standing → last ≤ n → n ≤ MAX_ITERATION
-    → (after : Standing)
+counts_some : (it last n called : ℕ) (standing : FullStanding) → Counts it last standing → last ≤ n → n ≤ MAX_ITERATION
+    → (after : FullStanding)
     → after.written ≡ standing.written ++ record { called = called; place = standing.place; iteration = n } ∷ []
     → after.place ≡ standing.place + 1 → Counts it n after
 counts_some it last n called standing counts more within after same at =
@@ -238,12 +237,12 @@ filter_none P (x ∷ xs) all =
     ∙ filter_none P xs h.1
 
 -- no reply told a stop, and none has a need that stands
-pub record Calm (standing : Standing) : Type 0 where
+pub record Calm (standing : FullStanding) : Type 0 where
   pub stop : standing.stop ≡ None
   pub needs : standing.needs ≡ []
 
-module _ (it last : ℕ) (standing : Standing) (number place : ℕ) (asked : Asked) where
-  abbrev now : Standing
+module _ (it last : ℕ) (standing : FullStanding) (number place : ℕ) (asked : Asked) where
+  abbrev now : FullStanding
   now = flying standing place number asked
 
   abbrev flight : Flight
@@ -420,7 +419,7 @@ module _ (it last : ℕ) (standing : Standing) (number place : ℕ) (asked : Ask
       (written_with other None (same_if {T = Option ℕ} None checkpoint)) refl
 
   -- the same the other way: a reply that says the next iteration may come, where no stop and no need stands
-  abbrev calm : Standing
+  abbrev calm : FullStanding
   calm = record standing { stop = None; flights = flight ∷ []; needs = [] }
 
   abbrev settled_calm : Reply → Cause → Bool
@@ -539,7 +538,7 @@ module _ (it last : ℕ) (standing : Standing) (number place : ℕ) (asked : Ask
       (sym (calm_is still flights)) (calm_goes counts reply stop next)
 
 -- what a reply to the call in flight follows
-pub busy_follows : (it last : ℕ) (machine : Machine) (standing : Standing) (number : ℕ) (session : Session)
+pub busy_follows : (it last : ℕ) (machine : Machine) (standing : FullStanding) (number : ℕ) (session : Session)
     (asked : Asked) (place : ℕ)
     → Busy machine standing number session asked place → Counts it last standing → (reply : Reply)
     → asks_for is_checkpoint (Some asked) ≡ true → stands_on it standing (history.Reply number reply) ≡ true
@@ -549,7 +548,7 @@ busy_follows it last machine standing number session asked place busy counts rep
     (subst (λ stands. stands_on it stands (history.Reply number reply) ≡ true)
     (flying_is machine standing number session asked place busy) e)
 
-pub busy_counts : (opened : List Table) (it last : ℕ) (machine : Machine) (standing : Standing) (number : ℕ)
+pub busy_counts : (opened : List Table) (it last : ℕ) (machine : Machine) (standing : FullStanding) (number : ℕ)
     (session : Session) (asked : Asked) (place : ℕ)
     → Busy machine standing number session asked place → Counts it last standing → (reply : Reply)
     → may_answer opened machine.commits session.transaction asked reply ≡ true

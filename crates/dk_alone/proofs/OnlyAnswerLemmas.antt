@@ -23,7 +23,6 @@ use Rattle.dk_si.specs.declared.machine.Session.{Session}
 use Rattle.dk_si.specs.declared.machine.Transaction.{Transaction}
 use Rattle.dk_si.specs.declared.machine.Transaction.TheVariants as state
 use Rattle.dk_si.specs.declared.machine.WriteSet.{WriteSet}
-use Rattle.dk_si.specs.declared.standing.Standing.{Standing}
 use Rattle.dk_si.specs.Answer.{answer, timeless, timeless_receipt}
 use Rattle.dk_alone.specs.AnswerHistory.{calls_of, iteration_and, iteration_behind, iteration_after, transaction_at}
 use Rattle.dk_alone.specs.AnswerHistory.{will_begin, begun_next, reply_next, answer_history, timeless_entry}
@@ -37,11 +36,12 @@ use Rattle.dk_si.specs.Machine.{is_outside, kind_of, net_behind, next, session_a
 use Rattle.dk_si.specs.MayAnswer.{may_answer, outside_answers}
 use Rattle.dk_si.specs.OneThread.{is_spent_alone, are_spent_numbers, may_reply_alone, none_in_flight}
 use Rattle.dk_si.specs.ReplyTests.{is_refused, is_spent_refusal}
-use Rattle.dk_si.specs.Standing.{first_standing, standing_and}
+use Rattle.dk_si.specs.Standing.{FullStanding, first_standing, standing_and}
 use Rattle.dk_alone.proofs.AnswerWalkLemmas.{entries_if, found_transaction}
 use Rattle.dk_alone.proofs.FlightLemmas.{Busy, Idle, begun_in, busy_begun, busy_call, busy_reply, called, idle_begun}
-use Rattle.dk_alone.proofs.FlightLemmas.{idle_call, idle_reply, is_there}
+use Rattle.dk_alone.proofs.FlightLemmas.{idle_call, idle_reply}
 use Rattle.dk_alone.proofs.IterationLemmas.{Counts, busy_counts, counts_begun, counts_call, first_counts}
+use Rattle.dk_si.proofs.SessionStepLemmas.{is_there}
 use Rattle.dk_si.proofs.TransitionLemmas.{session_of}
 use Rattle.dk_alone.proofs.WalkLemmas.{Line, first_line, goes, legal_walks, line_next, walks}
 use Rattle.dk_alone.proofs.ReplyAnswerLemmas.{Goes, goes_of, told_of, reply_is_answer, there_same}
@@ -162,7 +162,7 @@ not_begun true spent is = ap (λ b. not b) (is refl)
 not_begun false spent is = refl
 
 -- the reply that follows its call
-module _ (opened : List Table) (it last : ℕ) (before : List Entry) (machine : Machine) (standing : Standing)
+module _ (opened : List Table) (it last : ℕ) (before : List Entry) (machine : Machine) (standing : FullStanding)
     (number : ℕ) (session : Session) (asked : Asked) (place : ℕ)
     (line : Line opened before machine) (busy : Busy machine standing number session asked place)
     (counts : Counts it last standing) where
@@ -213,7 +213,7 @@ record Began (opened : List Table) (machine : Machine) (number : ℕ) (asked : A
   is : entry ≡ begun_next machine number
   will : will_begin opened machine number asked ≡ true
 
-began : (opened : List Table) (it : ℕ) (before : List Entry) (machine : Machine) (standing : Standing) (number : ℕ)
+began : (opened : List Table) (it : ℕ) (before : List Entry) (machine : Machine) (standing : FullStanding) (number : ℕ)
     (session : Session) (asked : Asked) (place : ℕ) (at transaction start : ℕ)
     → Busy machine standing number session asked place → Goes opened it before machine standing
     (history.Begun at transaction start)
@@ -245,13 +245,13 @@ began opened it before machine standing number session asked place at transactio
 
 -- what holds behind a reply
 record After (opened : List Table) (it last : ℕ) (before : List Entry) (machine : Machine)
-    (standing : Standing) : Type 0 where
+    (standing : FullStanding) : Type 0 where
   line : Line opened before machine
   idle : Idle machine standing
   counts : Counts it last standing
 
 -- a reply with what follows it is the answer with what follows that
-record Replies (opened : List Table) (it last : ℕ) (before : List Entry) (machine : Machine) (standing : Standing)
+record Replies (opened : List Table) (it last : ℕ) (before : List Entry) (machine : Machine) (standing : FullStanding)
     (number : ℕ) (asked : Asked)
     (at : ℕ) (reply : Reply) (rest : List Entry) (calls : List (ℕ × Asked)) : Type 0 where
   comes : Goes opened it before machine standing (history.Reply number reply)
@@ -262,7 +262,7 @@ record Replies (opened : List Table) (it last : ℕ) (before : List Entry) (mach
       calls
 
 -- a reply and the rest, where the rest is answered so
-abbrev Follows : List Table → ℕ → ℕ → List Entry → Machine → Standing → Entry → List Entry → List (ℕ × Asked) → Type 0
+abbrev Follows : List Table → ℕ → ℕ → List Entry → Machine → FullStanding → Entry → List Entry → List (ℕ × Asked) → Type 0
 Follows opened it last before machine standing entry rest calls =
     After opened it (iteration_and last entry) (before ++ entry ∷ []) (next opened machine entry)
     (standing_and it standing entry)
@@ -271,7 +271,7 @@ Follows opened it last before machine standing entry rest calls =
     → map timeless_entry rest ≡ answer_history opened (iteration_and last entry) (next opened machine entry) calls
 
 -- what is so of each reply that comes next, where what follows it is answered as its calls are
-abbrev OfReplies : List Table → ℕ → ℕ → List Entry → Machine → Standing → ℕ → Session → Asked → ℕ
+abbrev OfReplies : List Table → ℕ → ℕ → List Entry → Machine → FullStanding → ℕ → Session → Asked → ℕ
     → (ℕ → Reply → List Entry → List (ℕ × Asked) → Type 0) → Type 0
 OfReplies opened it last before machine standing number session asked place Is =
     Line opened before machine → Busy machine standing number session asked place → Counts it last standing
@@ -281,7 +281,7 @@ OfReplies opened it last before machine standing number session asked place Is =
     → Follows opened it last before machine standing (history.Reply number reply) rest calls
     → Is at reply rest calls
 
-reply_turn : (opened : List Table) (it last : ℕ) (before : List Entry) (machine : Machine) (standing : Standing)
+reply_turn : (opened : List Table) (it last : ℕ) (before : List Entry) (machine : Machine) (standing : FullStanding)
     (number : ℕ) (session : Session) (asked : Asked) (place : ℕ)
     → OfReplies opened it last before machine standing number session asked place
     (λ at reply rest calls. Replies opened it last before machine standing number asked at reply rest calls)
@@ -318,7 +318,7 @@ reply_turn opened it last before machine standing number session asked place lin
     }
 
 -- behind a call
-record Called (opened : List Table) (it last : ℕ) (before : List Entry) (machine : Machine) (standing : Standing)
+record Called (opened : List Table) (it last : ℕ) (before : List Entry) (machine : Machine) (standing : FullStanding)
     (number : ℕ) (asked : Asked) : Type 0 where
   session : Session
   line : Line opened (before ++ history.Call number asked ∷ []) (next opened machine (history.Call number asked))
@@ -326,7 +326,7 @@ record Called (opened : List Table) (it last : ℕ) (before : List Entry) (machi
       number session asked standing.place
   counts : Counts it last (standing_and it standing (history.Call number asked))
 
-called_of : (opened : List Table) (it last : ℕ) (before : List Entry) (machine : Machine) (standing : Standing)
+called_of : (opened : List Table) (it last : ℕ) (before : List Entry) (machine : Machine) (standing : FullStanding)
     (number : ℕ) (asked : Asked)
     → After opened it last before machine standing → goes opened it before machine standing
     (history.Call number asked) ≡ true
@@ -341,7 +341,7 @@ called_of opened it last before machine standing number asked after e =
       counts = counts_call it last standing number asked after.counts;
     }
 
-no_call : (opened : List Table) (it : ℕ) (before : List Entry) (machine : Machine) (standing : Standing) (number : ℕ)
+no_call : (opened : List Table) (it : ℕ) (before : List Entry) (machine : Machine) (standing : FullStanding) (number : ℕ)
     (session : Session) (asked : Asked) (place : ℕ) (at : ℕ) (also : Asked) (rest : List Entry)
     → Busy machine standing number session asked place → walks opened it before machine standing
     (history.Call at also ∷ rest) ≡ true → ⊥
@@ -351,7 +351,7 @@ no_call opened it before machine standing number session asked place at also res
     busy_call machine standing number session asked place at also busy comes.alone comes.step
 
 -- a transaction that is open begins no other
-no_begin : (opened : List Table) (it : ℕ) (before : List Entry) (machine : Machine) (standing : Standing) (number : ℕ)
+no_begin : (opened : List Table) (it : ℕ) (before : List Entry) (machine : Machine) (standing : FullStanding) (number : ℕ)
     (session : Session) (asked : Asked) (place : ℕ) (at transaction start : ℕ) (rest : List Entry)
     → Busy machine standing number session asked place → is_outside session.transaction ≡ false
     → walks opened it before machine standing (history.Begun at transaction start ∷ rest) ≡ true → ⊥
@@ -366,14 +366,14 @@ no_begin opened it before machine standing number session asked place at transac
     (not (is_spent_alone opened machine)) will).0).1)
 
 -- behind a transaction that begins with the call in flight
-record Opens (opened : List Table) (it : ℕ) (before : List Entry) (machine : Machine) (standing : Standing)
+record Opens (opened : List Table) (it : ℕ) (before : List Entry) (machine : Machine) (standing : FullStanding)
     (number : ℕ) (session : Session) (asked : Asked) (place : ℕ) (rest : List Entry) : Type 0 where
   busy : Busy (next opened machine (begun_next machine number)) (standing_and it standing (begun_next machine number))
       number (begun_in machine.begun (length machine.commits) session) asked place
   walk : walks opened it (before ++ begun_next machine number ∷ []) (next opened machine (begun_next machine number))
       (standing_and it standing (begun_next machine number)) rest ≡ true
 
-opens : (opened : List Table) (it : ℕ) (before : List Entry) (machine : Machine) (standing : Standing) (number : ℕ)
+opens : (opened : List Table) (it : ℕ) (before : List Entry) (machine : Machine) (standing : FullStanding) (number : ℕ)
     (session : Session) (asked : Asked) (place : ℕ) (from transaction start : ℕ) (rest : List Entry)
     → Busy machine standing number session asked place → walks opened it before machine standing
     (history.Begun from transaction start ∷ rest) ≡ true
@@ -392,7 +392,7 @@ opens opened it before machine standing number session asked place from transact
           (next opened machine entry) (standing_and it standing entry) rest) walk_here).1;
     }
 
-begun_turn : (opened : List Table) (it last : ℕ) (before : List Entry) (machine : Machine) (standing : Standing)
+begun_turn : (opened : List Table) (it last : ℕ) (before : List Entry) (machine : Machine) (standing : FullStanding)
     (number : ℕ) (session : Session) (asked : Asked) (place : ℕ)
     → Line opened before machine → Busy machine standing number session asked place → Counts it last standing
     → (from transaction start at : ℕ) (reply : Reply) (rest : List Entry) (calls : List (ℕ × Asked))
@@ -428,7 +428,7 @@ begun_turn opened it last before machine standing number session asked place lin
     ∙ (ap (λ list. entry ∷ list) turn.same
     ∙ ap (answered_if opened last machine number asked calls) (sym is.will))
 
-reply_alone : (opened : List Table) (it last : ℕ) (before : List Entry) (machine : Machine) (standing : Standing)
+reply_alone : (opened : List Table) (it last : ℕ) (before : List Entry) (machine : Machine) (standing : FullStanding)
     (number : ℕ) (session : Session) (asked : Asked) (place : ℕ)
     → OfReplies opened it last before machine standing number session asked place
     (λ at reply rest calls. history.Reply at (timeless reply) ∷ map timeless_entry rest
@@ -442,7 +442,7 @@ reply_alone opened it last before machine standing number session asked place li
     turn.comes))
 
 histories : (opened : List Table) (it : ℕ) (entries : List Entry) (last : ℕ) (before : List Entry) (machine : Machine)
-    (standing : Standing) (at : ℕ)
+    (standing : FullStanding) (at : ℕ)
     → After opened it last before machine standing → walks opened it before machine standing entries ≡ true
     → are_answered (exchanges_from at entries) ≡ true → are_plain opened machine entries ≡ true
     → map timeless_entry entries ≡ answer_history opened last machine (calls_of entries)

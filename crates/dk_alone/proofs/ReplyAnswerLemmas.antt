@@ -11,7 +11,6 @@ use Rattle.dk_si.specs.declared.history.Entry.{Entry}
 use Rattle.dk_si.specs.declared.history.Entry.TheVariants as history
 use Rattle.dk_si.specs.declared.machine.Machine.{Machine}
 use Rattle.dk_si.specs.declared.machine.Session.{Session}
-use Rattle.dk_si.specs.declared.standing.Standing.{Standing}
 use Rattle.dk_si.specs.Answer.{answer, timeless}
 use Rattle.dk_alone.specs.AnswerHistory.{iteration_and, iteration_after}
 use Rattle.dk_alone.specs.AnswerLaws.{is_plain, RepliesAreAnswers, RepliesAreOne}
@@ -20,24 +19,25 @@ use Rattle.dk_si.specs.Laws.{state_after}
 use Rattle.dk_si.specs.Machine.{first_state, next, session_at}
 use Rattle.dk_si.specs.MayAnswer.{may_answer}
 use Rattle.dk_si.specs.OneThread.{is_step_alone, may_reply_alone, none_in_flight}
-use Rattle.dk_si.specs.Standing.{first_standing, standing_and, stands_on}
+use Rattle.dk_si.specs.Standing.{FullStanding, first_standing, standing_and, stands_on}
 use Rattle.dk_alone.proofs.AnswerLemmas.{told_is_answer}
 use Rattle.dk_alone.proofs.FlightLemmas.{Busy, Idle, begun_in, busy_begun, busy_call, busy_reply, called, idle_begun}
-use Rattle.dk_alone.proofs.FlightLemmas.{idle_call, idle_reply, is_there, same_session}
+use Rattle.dk_alone.proofs.FlightLemmas.{idle_call, idle_reply, same_session}
 use Rattle.dk_si.proofs.FreshLemmas.{sees}
 use Rattle.dk_alone.proofs.IterationLemmas.{Counts, busy_counts, busy_follows, counts_begun, counts_call, first_counts}
 use Rattle.dk_alone.proofs.OneHolderLemmas.{has_one_holder}
 use Rattle.dk_si.proofs.PlaceLemmas.{found_at}
+use Rattle.dk_si.proofs.SessionStepLemmas.{is_there}
 use Rattle.dk_alone.proofs.WalkLemmas.{Line, first_line, goes, legal_walks, line_next, walks}
 
 -- what an entry that may come passes
-pub record Goes (opened : List Table) (it : ℕ) (before : List Entry) (machine : Machine) (standing : Standing)
+pub record Goes (opened : List Table) (it : ℕ) (before : List Entry) (machine : Machine) (standing : FullStanding)
     (entry : Entry) : Type 0 where
   pub step : is_step opened before machine entry ≡ true
   pub alone : is_step_alone opened machine entry ≡ true
   pub stands : stands_on it standing entry ≡ true
 
-pub goes_of : (opened : List Table) (it : ℕ) (before : List Entry) (machine : Machine) (standing : Standing)
+pub goes_of : (opened : List Table) (it : ℕ) (before : List Entry) (machine : Machine) (standing : FullStanding)
     (entry : Entry)
     → goes opened it before machine standing entry ≡ true → Goes opened it before machine standing entry
 goes_of opened it before machine standing entry e =
@@ -53,7 +53,7 @@ pub record Told (opened : List Table) (before : List Entry) (machine : Machine) 
   pub founded : is_founded opened number before machine session reply ≡ true
   pub alone : may_reply_alone opened machine number session.transaction (Some asked) reply ≡ true
 
-pub told_of : (opened : List Table) (it : ℕ) (before : List Entry) (machine : Machine) (standing : Standing)
+pub told_of : (opened : List Table) (it : ℕ) (before : List Entry) (machine : Machine) (standing : FullStanding)
     (number : ℕ)
     (session : Session) (asked : Asked) (place : ℕ) (reply : Reply)
     → Busy machine standing number session asked place → Goes opened it before machine standing
@@ -82,7 +82,7 @@ told_of opened it before machine standing number session asked place reply busy 
 
 -- a plain reply is the answer
 pub reply_is_answer : (opened : List Table) (it last : ℕ) (before : List Entry) (machine : Machine)
-    (standing : Standing)
+    (standing : FullStanding)
     (number : ℕ) (session : Session) (asked : Asked) (place : ℕ) (reply : Reply)
     → Line opened before machine → Busy machine standing number session asked place → Counts it last standing
     → Goes opened it before machine standing (history.Reply number reply) → is_plain asked reply ≡ true
@@ -103,7 +103,7 @@ reply_is_answer opened it last before machine standing number session asked plac
     (has_one_holder machine line.starts number line.fair busy.alone)
 
 -- the call in flight, if there is one
-pub record Flying (machine : Machine) (standing : Standing) : Type 0 where
+pub record Flying (machine : Machine) (standing : FullStanding) : Type 0 where
   pub number : ℕ
   pub session : Session
   pub asked : Asked
@@ -112,18 +112,18 @@ pub record Flying (machine : Machine) (standing : Standing) : Type 0 where
 
 -- what holds behind the front of a legal history
 record Behind (opened : List Table) (it last : ℕ) (before : List Entry) (machine : Machine)
-    (standing : Standing) : Type 0 where
+    (standing : FullStanding) : Type 0 where
   line : Line opened before machine
   counts : Counts it last standing
   turn : Idle machine standing ⊎ Flying machine standing
 
-abbrev BehindEntry : List Table → ℕ → ℕ → List Entry → Machine → Standing → Entry → Type 0
+abbrev BehindEntry : List Table → ℕ → ℕ → List Entry → Machine → FullStanding → Entry → Type 0
 BehindEntry opened it last before machine standing entry =
     Behind opened it (iteration_and last entry) (before ++ entry ∷ []) (next opened machine entry)
     (standing_and it standing entry)
 
 -- the session of an entry is the one whose call is in flight
-pub there_same : (test : Session → Bool) (machine : Machine) (standing : Standing) (at : ℕ)
+pub there_same : (test : Session → Bool) (machine : Machine) (standing : FullStanding) (at : ℕ)
     → (flying : Flying machine standing) → none_in_flight machine at ≡ true
     → if_there test (session_at machine.sessions at) ≡ true → flying.number ≡ at
 there_same test machine standing at flying alone may =
@@ -131,7 +131,7 @@ there_same test machine standing at flying alone may =
     same_session machine standing flying.number flying.session flying.asked flying.place at there.session flying.busy
     alone there.is
 
-call_behind : (opened : List Table) (it last : ℕ) (before : List Entry) (machine : Machine) (standing : Standing)
+call_behind : (opened : List Table) (it last : ℕ) (before : List Entry) (machine : Machine) (standing : FullStanding)
     (number : ℕ) (asked : Asked)
     → Line opened before machine → Counts it last standing → (Idle machine standing ⊎ Flying machine standing)
     → Goes opened it before machine standing (history.Call number asked)
@@ -153,7 +153,7 @@ call_behind opened it last before machine standing number asked line counts (inl
       });
     }
 
-begun_behind : (opened : List Table) (it last : ℕ) (before : List Entry) (machine : Machine) (standing : Standing)
+begun_behind : (opened : List Table) (it last : ℕ) (before : List Entry) (machine : Machine) (standing : FullStanding)
     (at number start : ℕ)
     → Line opened before machine → Counts it last standing → (Idle machine standing ⊎ Flying machine standing)
     → Goes opened it before machine standing (history.Begun at number start)
@@ -176,7 +176,7 @@ begun_behind opened it last before machine standing at number start line counts 
       });
     }
 
-reply_behind : (opened : List Table) (it last : ℕ) (before : List Entry) (machine : Machine) (standing : Standing)
+reply_behind : (opened : List Table) (it last : ℕ) (before : List Entry) (machine : Machine) (standing : FullStanding)
     (number : ℕ) (reply : Reply)
     → Line opened before machine → Counts it last standing → (Idle machine standing ⊎ Flying machine standing)
     → Goes opened it before machine standing (history.Reply number reply)
@@ -196,7 +196,7 @@ reply_behind opened it last before machine standing number reply line counts (in
       turn = inl (busy_reply opened it machine standing number flying.session flying.asked flying.place reply busy);
     }
 
-entry_behind : (opened : List Table) (it last : ℕ) (before : List Entry) (machine : Machine) (standing : Standing)
+entry_behind : (opened : List Table) (it last : ℕ) (before : List Entry) (machine : Machine) (standing : FullStanding)
     (entry : Entry)
     → Behind opened it last before machine standing → Goes opened it before machine standing entry
     → BehindEntry opened it last before machine standing entry
@@ -210,11 +210,11 @@ entry_behind opened it last before machine standing (history.Reply number reply)
 -- what holds before the last entry of a walk
 record End (opened : List Table) (it last : ℕ) (machine : Machine) (entry : Entry) : Type 0 where
   before : List Entry
-  standing : Standing
+  standing : FullStanding
   behind : Behind opened it last before machine standing
   comes : Goes opened it before machine standing entry
 
-end_of : (opened : List Table) (it last : ℕ) (before : List Entry) (machine : Machine) (standing : Standing)
+end_of : (opened : List Table) (it last : ℕ) (before : List Entry) (machine : Machine) (standing : FullStanding)
     (entries : List Entry) (entry : Entry)
     → Behind opened it last before machine standing → walks opened it before machine standing (entries ++ entry ∷ [])
     ≡ true
@@ -234,7 +234,7 @@ end_of opened it last before machine standing (first ∷ entries) entry behind w
     (entry_behind opened it last before machine standing first behind
     (goes_of opened it before machine standing first h.0)) h.1
 
-busy_at : (machine : Machine) (standing : Standing) (number : ℕ) (session : Session) (asked : Asked)
+busy_at : (machine : Machine) (standing : FullStanding) (number : ℕ) (session : Session) (asked : Asked)
     → (flying : Flying machine standing) → none_in_flight machine number ≡ true
     → session_at machine.sessions number ≡ Some session → session.asked ≡ Some asked
     → Busy machine standing number session asked flying.place

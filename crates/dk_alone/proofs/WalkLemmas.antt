@@ -15,14 +15,13 @@ use Rattle.dk_si.specs.declared.machine.Session.{Session}
 use Rattle.dk_si.specs.declared.machine.Transaction.{Transaction}
 use Rattle.dk_si.specs.declared.machine.Transaction.TheVariants as state
 use Rattle.dk_si.specs.declared.machine.WriteSet.{WriteSet}
-use Rattle.dk_si.specs.declared.standing.Standing.{Standing}
 use Rattle.dk_si.specs.Exchanges.{exchanges}
 use Rattle.dk_si.specs.IsLegal.{stops_well, iterates_well, is_legal}
 use Rattle.dk_si.specs.IsStep.{are_steps, is_step}
 use Rattle.dk_si.specs.Laws.{state_after}
 use Rattle.dk_si.specs.Machine.{after_begin, after_call, after_reply, first_state, next, next_number, session_at}
 use Rattle.dk_si.specs.OneThread.{are_steps_alone, is_legal_alone, is_step_alone}
-use Rattle.dk_si.specs.Standing.{first_standing, standing_after, standing_and, stands_on}
+use Rattle.dk_si.specs.Standing.{FullStanding, first_standing, standing_after, standing_and, stands_on}
 use Rattle.dk_si.proofs.FirstCommitterLemmas.{IsFair, first_fair, step_fair}
 use Rattle.dk_si.specs.Laws.{entry_starts}
 use Rattle.dk_si.proofs.ForwardLemmas.{and_assoc, and_true, state_and_one}
@@ -31,30 +30,30 @@ use Rattle.dk_si.proofs.StandingLemmas.{stands_well, standing_and_one}
 use Rattle.dk_si.proofs.TransitionLemmas.{session_of}
 
 -- an entry may come in this state
-abbrev pub goes : List Table → ℕ → List Entry → Machine → Standing → Entry → Bool
+abbrev pub goes : List Table → ℕ → List Entry → Machine → FullStanding → Entry → Bool
 goes opened it before machine standing entry =
     is_step opened before machine entry && (is_step_alone opened machine entry && stands_on it standing entry)
 
 -- these entries may come one after the other
-abbrev pub walks : List Table → ℕ → List Entry → Machine → Standing → List Entry → Bool
+abbrev pub walks : List Table → ℕ → List Entry → Machine → FullStanding → List Entry → Bool
 walks opened it before machine standing [] = true
 walks opened it before machine standing (entry ∷ entries) =
     goes opened it before machine standing entry
     && walks opened it (before ++ entry ∷ []) (next opened machine entry) (standing_and it standing entry) entries
 
-abbrev stand_all : ℕ → Standing → List Entry → Bool
+abbrev stand_all : ℕ → FullStanding → List Entry → Bool
 stand_all it standing [] = true
 stand_all it standing (entry ∷ entries) = stands_on it standing entry && stand_all it
     (standing_and it standing entry) entries
 
 -- the three conditions of a walk
-record Three (opened : List Table) (it : ℕ) (before : List Entry) (machine : Machine) (standing : Standing)
+record Three (opened : List Table) (it : ℕ) (before : List Entry) (machine : Machine) (standing : FullStanding)
     (entries : List Entry) : Type 0 where
   steps : are_steps opened before machine entries ≡ true
   alone : are_steps_alone opened machine entries ≡ true
   stand : stand_all it standing entries ≡ true
 
-walk_from : (opened : List Table) (it : ℕ) (before : List Entry) (machine : Machine) (standing : Standing)
+walk_from : (opened : List Table) (it : ℕ) (before : List Entry) (machine : Machine) (standing : FullStanding)
     (entries : List Entry)
     → Three opened it before machine standing entries → walks opened it before machine standing entries ≡ true
 walk_from opened it before machine standing [] three = refl
@@ -73,7 +72,7 @@ walk_from opened it before machine standing (entry ∷ entries) three =
     (walk_from opened it (before ++ entry ∷ []) (next opened machine entry) (standing_and it standing entry) entries
     (record { steps = a.1; alone = b.1; stand = c.1 }))
 
-three_of : (opened : List Table) (it : ℕ) (before : List Entry) (machine : Machine) (standing : Standing)
+three_of : (opened : List Table) (it : ℕ) (before : List Entry) (machine : Machine) (standing : FullStanding)
     (entries : List Entry)
     → walks opened it before machine standing entries ≡ true → Three opened it before machine standing entries
 three_of opened it before machine standing [] walk = record { steps = refl; alone = refl; stand = refl }

@@ -1,8 +1,7 @@
 -- Each event keeps what fits.
 use Rattle.dk_core.proofs.HolderLemmas.{is_none_of}
 use Rattle.dk_core.specs.Allows as may
-use Rattle.dk_core.specs.Changes.{is_change_of, is_fresh_part}
-use Rattle.dk_core.specs.Layout.{groups_of}
+use Rattle.dk_core.specs.Changes.{is_fresh_part}
 use Rattle.dk_types.specs.declared.vector.VectorId.{VectorId}
 use Rattle.dk_core.specs.Core as in_core
 use Rattle.dk_core.specs.Entries as in_entries
@@ -15,7 +14,7 @@ use Rattle.std.proofs.lemmas.List.{append-nil}
 use Rattle.dk_types.specs.declared.net.TableNet.{TableNet}
 use Rattle.dk_types.specs.declared.reply.Refusal.{Refusal}
 use Rattle.dk_types.specs.declared.reply.Holder.{Holder}
-use Rattle.dk_si.proofs.PlaceLemmas.{same_copies, set_place}
+use Rattle.dk_si.proofs.PlaceLemmas.{set_length, same_copies, set_place}
 use Rattle.dk_si.specs.declared.database.Table.{Table}
 use Rattle.dk_si.specs.declared.history.Asked.{Asked}
 use Rattle.dk_si.specs.declared.history.Entry.{Entry}
@@ -47,32 +46,13 @@ use Rattle.dk_si.proofs.ForwardLemmas.{state_and_one, steps_and_one, was_so_is, 
 use Rattle.dk_si.proofs.TransitionLemmas.{session_of}
 use Rattle.dk_core.proofs.Invariant.{core_with, stands_well, moved, allows_so, Has, Alone, Claims, Links, Sits, Fits}
 use Rattle.dk_core.proofs.StepLemmas.{found, call_step, begin_step, not_so, writes_is}
-use Rattle.dk_core.proofs.HolderLemmas.{least_passes, held_now}
+use Rattle.dk_core.proofs.HolderLemmas.{held_now, least_passes, writes_parts}
 use Rattle.dk_core.proofs.MoveLemmas.{Moved, stays}
-use Rattle.dk_core.proofs.ChangeLemmas.{unmoved, seen_alone, least_fails, part_ids, part_goes, version_own, alone_but}
+use Rattle.dk_core.proofs.ChangeLemmas.{by_change, unmoved, seen_alone, least_fails, part_ids, part_goes, version_own, alone_but}
 use Rattle.dk_types.specs.declared.reply.Refusal.TheVariants as why
 use Rattle.dk_si.specs.declared.history.Entry.TheVariants as history
 use Rattle.dk_si.specs.declared.machine.Transaction.TheVariants as state
 use Rattle.dk_core.specs.declared.event.Event.TheVariants as event
-
-if_some : (b : Bool) (n k : ℕ) → (if b then Some n else None) ≡ Some k → b ≡ true
-if_some true n k e = refl
-if_some false n k e = cc
-
--- what writes a row has it
-pub writes_parts : (table row k : ℕ) (seat : Seat) (found : Option Snapshot) → seat.live ≡ found
-    → elim found as
-    (λ x. Option ℕ) [
-      | None ↦ None
-      | Some live ↦ if is_none live.commit
-          && net_has (unstamped seat) table row then Some live.number else None
-    ] ≡ Some k
-    → (live : Snapshot) × (seat.live ≡ Some live) × (live.commit ≡ None) × Has seat table row
-writes_parts table row k seat None is e = cc
-writes_parts table row k seat (Some live) is e =
-    let p = and_parts (is_none live.commit) (net_has (unstamped seat) table row)
-    (if_some (is_none live.commit && net_has (unstamped seat) table row) live.number k e) in
-    (live, is, is_none_of live.commit p.0, p.1)
 
 version_free : (core : Core) → Fits core → (number start : ℕ) (session : Session) (seat : Seat) (part : TableNet)
     → 0 < number
@@ -93,10 +73,10 @@ version_free core fits number start session seat part above at there none k othe
     (least_fails (is_unseen core number start part.table) (changed_ids part) row none (part_ids part row q.1))).alone
     k other live.number apart where_is
     (writes_is part.table row other live is uncommitted (subst (λ m. Has other m row) (sym t) has)))
-    (λ h. ((fits.sit (number - 1) session seat at there).free p.0 table row p.1 p.2 h).alone k other live.number apart
+    (λ h. ((fits.sit (number - 1) session seat at there).free p.live table row p.is p.commits h).alone k other live.number apart
     where_is
     (writes_is table row other live is uncommitted has))
-    (or_cases (part.table == table && part_has part row) (net_has (unstamped seat) table row) p.3)
+    (or_cases (part.table == table && part_has part row) (net_has (unstamped seat) table row) p.has)
 
 -- a test that holds now was so since the call in flight
 was_now : (test : Machine → Bool) (opened : List Table) (session : ℕ) (machine : Machine) (so : Bool)
@@ -204,13 +184,8 @@ pub conflict_free : (core : Core) → Fits core → (place : ℕ) (session : Ses
 conflict_free core fits place session seat new at there less k other live table row apart where_is is uncommitted has
     n w =
     let p = writes_parts table row n seat seat.live refl (less table row n w) in
-    ((fits.sit place session seat at there).free p.0 table row p.1 p.2 p.3).alone k other live.number apart where_is
+    ((fits.sit place session seat at there).free p.live table row p.is p.commits p.has).alone k other live.number apart where_is
     (writes_is table row other live is uncommitted has)
-
-pub set_length : {T : Type 0} → (xs : List T) (k : ℕ) (x : T) → length (slice_set xs k x) ≡ length xs
-set_length [] k x = refl
-set_length (y ∷ xs) zero x = refl
-set_length (y ∷ xs) (suc k) x = ap suc (set_length xs k x)
 
 change_by : (core : Core) → Fits core
     → (number : ℕ) (active : OpenTransaction) (asked : Asked) (touched : Option WriteSet)
@@ -256,17 +231,16 @@ change_open : (core : Core) → Fits core → (number : ℕ) (at : VectorId) (pa
     → may.may_change core at part (session_of transaction asked touched past) seat ≡ true
     → Fits (core_with core core.entries core.now
     (slice_set core.seats (number - 1) (does.seat_after_change core number part seat)))
-change_open core fits number at part state.Outside asked touched past seat above is here there passes =
-    absurd (false≢true passes)
-change_open core fits number at part state.Aborted asked touched past seat above is here there passes =
-    absurd (false≢true passes)
-change_open core fits number at part (state.Open active) None touched past seat above is here there passes =
-    absurd (false≢true passes)
-change_open core fits number at part (state.Open active) (Some asked) touched past seat above is here there passes =
+change_open core fits number at part transaction asked touched past seat above is here there passes =
+    by_change core at part touched past seat
+    (λ transaction asked. session_at core.now.sessions number ≡ Some (session_of transaction asked touched past)
+    → slice_get core.now.sessions (number - 1) ≡ Some (session_of transaction asked touched past)
+    → Fits (core_with core core.entries core.now
+    (slice_set core.seats (number - 1) (does.seat_after_change core number part seat))))
+    (λ active asked so is here.
     let n = committed_count core.opened core.now.commits active part.table in
     let meaning = meaning_in core.opened core.now.commits active asked in
-    let fine = (and_parts _ (is_fresh_part n seat.made meaning part)
-    (and_parts _ (is_change_of (groups_of core.layout part.table) n seat.made meaning at part) passes).1).1 in
+    let fine = (and_parts _ (is_fresh_part n seat.made meaning part) so).1 in
     let sits = fits.sit (number - 1) (session_of (state.Open active) (Some asked) touched past) seat here there in
     let linked = sits.links.1 (part_goes core active asked seat.made part n fine) in
     subst (λ new. Fits (core_with core core.entries core.now (slice_set core.seats (number - 1) new)))
@@ -278,7 +252,8 @@ change_open core fits number at part (state.Open active) (Some asked) touched pa
       ]
     ]) linked))
     (change_by core fits number active asked touched past seat part above is here there fine
-    (least_where (is_unseen core number active.start part.table) (changed_ids part)) refl)
+    (least_where (is_unseen core number active.start part.table) (changed_ids part)) refl))
+    transaction asked passes is here
 
 -- a Change keeps the invariant
 pub change_keeps : (core : Core) → Fits core → (number : ℕ) (at : VectorId) (part : TableNet)

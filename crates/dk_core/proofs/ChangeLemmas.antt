@@ -1,5 +1,8 @@
 -- A change makes a version, or finds a conflict, and keeps what fits.
-use Rattle.dk_core.specs.Changes.{has_update, is_part_of, is_meant, are_fresh_rows, is_fresh_part}
+use Rattle.dk_core.specs.Allows as may
+use Rattle.dk_core.specs.Layout.{groups_of}
+use Rattle.dk_types.specs.declared.vector.VectorId.{VectorId}
+use Rattle.dk_core.specs.Changes.{has_update, is_part_of, is_meant, are_fresh_rows, is_change_of, is_fresh_part}
 use Rattle.dk_syntax.specs.declared.statement.Statement.{Statement}
 use Rattle.dk_si.specs.Machine.{kind_of}
 use Rattle.std.proofs.Common.{arith, ◌≡◌, ◌⊎◌, inl, inr, ⊎_elim, ℕ, zero, suc, ◌-◌, ◌<◌, Bool, true, false, List, [], ◌∷◌, map, length, Option, Some, None, ap, ◌∙◌, sym, refl, subst, slice_get, slice_set}
@@ -17,6 +20,7 @@ use Rattle.dk_si.specs.declared.history.Asked.{Asked}
 use Rattle.dk_si.specs.declared.history.Asked.TheVariants.{Unread, Bad, Good}
 use Rattle.dk_si.specs.declared.machine.OpenTransaction.{OpenTransaction}
 use Rattle.dk_si.specs.declared.machine.LastTransaction.{LastTransaction}
+use Rattle.dk_si.specs.declared.machine.Transaction.{Transaction}
 use Rattle.dk_si.specs.declared.machine.WriteSet.{WriteSet}
 use Rattle.dk_si.specs.declared.machine.Session.{Session}
 use Rattle.dk_si.specs.Meaning.{same_value}
@@ -245,6 +249,24 @@ part_goes core active (Good statement) made part n is = ⊎_elim
     (subst (λ meaning. is_fresh_part n made meaning part ≡ true) (rolls_nothing core active statement rolls) is)))
     (λ other. ap not other)
     (cases_Bool (is_rollback (kind_of statement)))
+
+-- a session that may make a Change is in an open transaction, and has a call in flight that means it
+pub by_change : (core : Core) (at : VectorId) (part : TableNet) (touched : Option WriteSet) (past : Option LastTransaction)
+    (seat : Seat) (P : Transaction → Option Asked → Type 0)
+    → ((active : OpenTransaction) (asked : Asked)
+    → is_change_of (groups_of core.layout part.table)
+    (committed_count core.opened core.now.commits active part.table) seat.made
+    (meaning_in core.opened core.now.commits active asked) at part ≡ true
+    → P (state.Open active) (Some asked))
+    → (transaction : Transaction) (asked : Option Asked)
+    → may.may_change core at part (session_of transaction asked touched past) seat ≡ true → P transaction asked
+by_change core at part touched past seat P by state.Outside asked passes = absurd (false≢true passes)
+by_change core at part touched past seat P by state.Aborted asked passes = absurd (false≢true passes)
+by_change core at part touched past seat P by (state.Open active) None passes = absurd (false≢true passes)
+by_change core at part touched past seat P by (state.Open active) (Some asked) passes =
+    by active asked (and_parts _ (is_change_of (groups_of core.layout part.table)
+    (committed_count core.opened core.now.commits active part.table) seat.made
+    (meaning_in core.opened core.now.commits active asked) at part) passes).1
 
 one_there : {T : Type 0} → (xs : List T) (k place : ℕ) (a b : T) → k ≡ place → slice_get xs place ≡ Some a
     → slice_get xs k ≡ Some b → a ≡ b

@@ -1,9 +1,8 @@
 -- A row that a net deletes: it stays deleted behind a further change, and it is not there in what the transaction
 -- sees.
-use Rattle.dk_core.proofs.CallLemmas.{set_length}
 use Rattle.std.proofs.Common.{arith, ◌≡◌, ◌⊎◌, ⊎_elim, ℕ, zero, suc, ◌+◌, ◌<◌, ◌≤◌, Bool, true, false, List, [], ◌∷◌, ◌++◌, map, length, Option, Some, None, ap, ◌∙◌, sym, refl, subst, slice_get, slice_set}
 use Rattle.std.specs.Prelude.{◌&&◌, not, is_some, ◌==◌, nat_lt, if◌then◌else◌}
-use Rattle.std.specs.List.{list_any, filter}
+use Rattle.std.specs.List.{list_any}
 use Rattle.std.proofs.lemmas.Bool.{true≢false, false≢true, and_from, and_parts, or_cases, or_left, or_right, cases_Bool, eqb-true, eq-eqb, ltb-true, lt-ltb}
 use Rattle.std.proofs.lemmas.Option.{slice_get_within}
 use Rattle.dk_values.specs.declared.value.Value.{Value}
@@ -13,6 +12,8 @@ use Rattle.dk_si.specs.declared.database.Table.{Table}
 use Rattle.dk_si.specs.Database.{put_rows, clear_rows, rows_after, apply_part, apply_net}
 use Rattle.dk_si.specs.Nets.{put_by, put_all, has_id, part_of, without, merged_net, merged_part, merged_deletes, committed_ids, row_count}
 use Rattle.dk_si.specs.RowLaws.{has_row, table_has_row}
+use Rattle.dk_si.proofs.PlaceLemmas.{set_length}
+use Rattle.dk_si.proofs.NetLemmas.{filter_has, none_above}
 use Rattle.dk_core.specs.Versions.{is_deleted_by}
 
 -- an item that is put stands there
@@ -73,38 +74,9 @@ ids_there row (id ∷ more) ids has = ⊎_elim
     (λ h. ids_there row more (put_by (λ id. id) id ids) h)
     (or_cases (id == row) (has_id more row) has)
 
-kept_here : {T : Type 0} → (test : T → Bool) (x : T) (xs : List T) (b : Bool) → b ≡ true → test x ≡ true
-    → list_any test (if b then x ∷ xs else xs) ≡ true
-kept_here test x xs true keeps has = or_left (test x) _ has
-kept_here test x xs false keeps has = absurd (false≢true keeps)
-
-kept_later : {T : Type 0} → (test : T → Bool) (x : T) (xs : List T) (b : Bool) → list_any test xs ≡ true
-    → list_any test (if b then x ∷ xs else xs) ≡ true
-kept_later test x xs true has = or_right (test x) _ has
-kept_later test x xs false has = has
-
-filter_has : {T : Type 0} → (test keep : T → Bool) (xs : List T) → ((x : T) → test x ≡ true → keep x ≡ true)
-    → list_any test xs ≡ true → list_any test (filter keep xs) ≡ true
-filter_has test keep [] lets has = has
-filter_has test keep (x ∷ xs) lets has = ⊎_elim
-    (λ h. kept_here test x (filter keep xs) (keep x) (lets x h) h)
-    (λ h. kept_later test x (filter keep xs) (keep x) (filter_has test keep xs lets h))
-    (or_cases (test x) (list_any test xs) has)
-
 -- a part of a net deletes the row of a table
 abbrev deletes_here : ℕ → ℕ → TableNet → Bool
 deletes_here table row part = part.table == table && has_id part.deletes row
-
-none_above : (parts : List TableNet) (low table row : ℕ) → all_above low parts ≡ true → table ≤ low
-    → is_deleted_by table row parts ≡ true → ⊥
-none_above [] low table row above le has = false≢true has
-none_above (part ∷ parts) low table row above le has =
-    let h = and_parts (nat_lt low part.table) (all_above low parts) above in
-    ⊎_elim
-    (λ p. let same = eqb-true part.table table (and_parts (part.table == table) (has_id part.deletes row) p).0 in
-    let less = ltb-true low part.table h.0 in omega (arith, same, less, le))
-    (λ p. none_above parts low table row h.1 le p)
-    (or_cases (deletes_here table row part) (is_deleted_by table row parts) has)
 
 same_le : (table other : ℕ) → (other == table) ≡ true → table ≤ other
 same_le table other same = let e = eqb-true other table same in omega (arith, e)
@@ -131,7 +103,7 @@ in_part (part ∷ parts) table row up has =
     let h = and_parts (all_above part.table parts) (ascends parts) up in
     in_part_at part parts table row (part.table == table) refl
     (or_cases (deletes_here table row part) (is_deleted_by table row parts) has)
-    (λ same later. none_above parts part.table table row h.0 (same_le table part.table same) later)
+    (λ same later. none_above (λ part. has_id part.deletes row) parts part.table table h.0 (same_le table part.table same) later)
     (λ later. in_part parts table row h.1 later)
 
 some_long : {T : Type 0} → (test : T → Bool) (xs : List T) → list_any test xs ≡ true → 0 < length xs
@@ -322,7 +294,7 @@ deleted_is_gone (part ∷ parts) tables table row up less has =
     (part_here_at part tables row (slice_get tables part.table) refl
     (subst (λ t. row < row_count tables t) (sym e) less) p.1))
     (λ later. ⊎_elim
-    (λ same. absurd (none_above parts part.table table row h.0 (same_le table part.table same) later))
+    (λ same. absurd (none_above (λ part. has_id part.deletes row) parts part.table table h.0 (same_le table part.table same) later))
     (λ other. deleted_is_gone parts (apply_part part tables) table row h.1
     (subst (λ found. row < elim found as (λ x. ℕ) [ None ↦ 0 | Some table ↦ length table.rows ])
     (sym (part_other part tables table other)) less) later)

@@ -64,10 +64,6 @@ at_drop (y ∷ xs) (suc n) i x at =
     let same : suc (n + i) ≡ suc n + i = omega arith in
     subst (λ m. slice_get (y ∷ xs) m ≡ Some x) same (at_drop xs n i x at)
 
-only_one : (seat : Seat) (place : ℕ) (other : Seat) → slice_get (seat ∷ []) place ≡ Some other → seat ≡ other
-only_one seat zero other at = cc
-only_one seat (suc n) other at = cc
-
 later_none : (found rest : Option ℕ)
     → elim found as (λ x. Option ℕ) [ None ↦ rest | Some number ↦ Some number ] ≡ None → rest ≡ None
 later_none None rest e = e
@@ -140,26 +136,29 @@ into_but number xs k x above apart at = ⊎_elim
     order)
     (cases_order k (number - 1))
 
--- a seat of these writes the row
-pub record Writer (table row k : ℕ) (seats : List Seat) : Type 0 where
-  pub place : ℕ
-  pub seat : Seat
-  pub there : slice_get seats place ≡ Some seat
+-- the seat has the row, in versions with that commit, or of a transaction without one
+pub record Owns (commit : Option ℕ) (table row k : ℕ) (seat : Seat) : Type 0 where
   pub live : Snapshot
   pub is : seat.live ≡ Some live
-  pub none : live.commit ≡ None
+  pub commits : live.commit ≡ commit
   pub has : Has seat table row
   pub number : live.number ≡ k
 
-pub record Stamper (n table row k : ℕ) (seats : List Seat) : Type 0 where
+-- one of these seats does
+pub record Owner (commit : Option ℕ) (table row k : ℕ) (seats : List Seat) : Type 0 where
   pub place : ℕ
   pub seat : Seat
   pub there : slice_get seats place ≡ Some seat
-  pub live : Snapshot
-  pub is : seat.live ≡ Some live
-  pub committed : live.commit ≡ Some n
-  pub has : Has seat table row
-  pub number : live.number ≡ k
+  pub owns : Owns commit table row k seat
+
+first_owner : (commit : Option ℕ) (table row k : ℕ) (seat : Seat) (seats : List Seat) → Owns commit table row k seat
+    → Owner commit table row k (seat ∷ seats)
+first_owner commit table row k seat seats owns = record { place = 0; seat = seat; there = refl; owns = owns }
+
+later_owner : (commit : Option ℕ) (table row k : ℕ) (first : Seat) (seats : List Seat) → Owner commit table row k seats
+    → Owner commit table row k (first ∷ seats)
+later_owner commit table row k first seats w =
+    record { place = suc w.place; seat = w.seat; there = w.there; owns = w.owns }
 
 pub is_none_of : {T : Type 0} → (x : Option T) → is_none x ≡ true → x ≡ None
 is_none_of None e = refl
@@ -169,70 +168,30 @@ some_if : (b : Bool) (n k : ℕ) → (if b then Some n else None) ≡ Some k →
 some_if true n k e = (refl, cc)
 some_if false n k e = cc
 
-writes_parts : (table row k : ℕ) (seat : Seat) (found : Option Snapshot) → seat.live ≡ found
+-- what writes a row has it
+pub writes_parts : (table row k : ℕ) (seat : Seat) (found : Option Snapshot) → seat.live ≡ found
     → elim found as
     (λ x. Option ℕ) [
       | None ↦ None
       | Some live ↦ if is_none live.commit
           && net_has (unstamped seat) table row then Some live.number else None
     ] ≡ Some k
-    → Writer table row k (seat ∷ [])
+    → Owns None table row k seat
 writes_parts table row k seat None is e = cc
 writes_parts table row k seat (Some live) is e =
     let h = some_if (is_none live.commit && net_has (unstamped seat) table row) live.number k e in
     let p = and_parts (is_none live.commit) (net_has (unstamped seat) table row) h.0 in
-    record {
-      place = 0;
-      seat = seat;
-      there = refl;
-      live = live;
-      is = is;
-      none = is_none_of live.commit p.0;
-      has =
-          p.1;
-      number = h.1;
-    }
-
-later_writer : (table row k : ℕ) (first : Seat) (seats : List Seat) → Writer table row k seats
-    → Writer table row k (first ∷ seats)
-later_writer table row k first seats w =
-    record {
-      place = suc w.place;
-      seat = w.seat;
-      there = w.there;
-      live = w.live;
-      is = w.is;
-      none = w.none;
-      has =
-          w.has;
-      number = w.number;
-    }
-
-first_writer : (table row k : ℕ) (seat : Seat) (seats : List Seat) → Writer table row k (seat ∷ [])
-    → Writer table row k (seat ∷ seats)
-first_writer table row k seat seats w =
-    let same : seat ≡ w.seat = only_one seat w.place w.seat w.there in
-    record {
-      place = 0;
-      seat = w.seat;
-      there = ap (λ s. Some s) same;
-      live = w.live;
-      is = w.is;
-      none = w.none;
-      has =
-          w.has;
-      number = w.number;
-    }
+    record { live = live; is = is; commits = is_none_of live.commit p.0; has = p.1; number = h.1 }
 
 writer_at : (table row k : ℕ) (seat : Seat) (seats : List Seat) (found : Option ℕ) → writer_in table row seat ≡ found
     → elim found as (λ x. Option ℕ) [ None ↦ writer_among table row seats | Some number ↦ Some number ] ≡ Some k
-    → (writer_among table row seats ≡ Some k → Writer table row k seats) → Writer table row k (seat ∷ seats)
-writer_at table row k seat seats None is e rest = later_writer table row k seat seats (rest e)
-writer_at table row k seat seats (Some number) is e rest = first_writer table row k seat seats
+    → (writer_among table row seats ≡ Some k → Owner None table row k seats) → Owner None table row k (seat ∷ seats)
+writer_at table row k seat seats None is e rest = later_owner None table row k seat seats (rest e)
+writer_at table row k seat seats (Some number) is e rest = first_owner None table row k seat seats
     (writes_parts table row k seat seat.live refl (is ∙ e))
 
 pub writer_is : (table row k : ℕ) (seats : List Seat) → writer_among table row seats ≡ Some k
-    → Writer table row k seats
+    → Owner None table row k seats
 writer_is table row k [] e = cc
 writer_is table row k (seat ∷ seats) e = writer_at table row k seat seats (writer_in table row seat) refl e
     (writer_is table row k seats)
@@ -273,19 +232,15 @@ stamps_live : (n table row k : ℕ) (seat : Seat) (live : Snapshot) (commit : Op
       | None ↦ None
       | Some number ↦ if number == n && net_has (unstamped seat) table row then Some live.number else None
     ] ≡ Some k
-    → Stamper n table row k (seat ∷ [])
+    → Owns (Some n) table row k seat
 stamps_live n table row k seat live None is committed e = cc
 stamps_live n table row k seat live (Some number) is committed e =
     let h = some_if (number == n && net_has (unstamped seat) table row) live.number k e in
     let p = and_parts (number == n) (net_has (unstamped seat) table row) h.0 in
     record {
-      place = 0;
-      seat = seat;
-      there = refl;
       live = live;
       is = is;
-      committed = committed
-          ∙ ap (λ m. Some m) (eqb-true number n p.0);
+      commits = committed ∙ ap (λ m. Some m) (eqb-true number n p.0);
       has = p.1;
       number = h.1;
     }
@@ -298,7 +253,7 @@ stamps_parts : (n table row k : ℕ) (seat : Seat) (found : Option Snapshot) →
         | Some number ↦ if number == n && net_has (unstamped seat) table row then Some live.number else None
       ]
     ]) ≡ Some k
-    → Stamper n table row k (seat ∷ [])
+    → Owns (Some n) table row k seat
 stamps_parts n table row k seat None is e = cc
 stamps_parts n table row k seat (Some live) is e = stamps_live n table row k seat live live.commit is refl e
 
@@ -416,47 +371,16 @@ none_keeps core fits number table row above none =
     let b = into_but number core.seats k seat.0 above apart seat.1 in
     no_writer table row (all_but number core.seats) none b.0 seat.0 w.0 b.1 w.1)
 
-later_stamper : (n table row k : ℕ) (first : Seat) (seats : List Seat) → Stamper n table row k seats
-    → Stamper n table row k (first ∷ seats)
-later_stamper n table row k first seats w =
-    record {
-      place = suc w.place;
-      seat = w.seat;
-      there = w.there;
-      live = w.live;
-      is = w.is;
-      committed =
-          w.committed;
-      has = w.has;
-      number = w.number;
-    }
-
-first_stamper : (n table row k : ℕ) (seat : Seat) (seats : List Seat) → Stamper n table row k (seat ∷ [])
-    → Stamper n table row k (seat ∷ seats)
-first_stamper n table row k seat seats w =
-    let same : seat ≡ w.seat = only_one seat w.place w.seat w.there in
-    record {
-      place = 0;
-      seat = w.seat;
-      there = ap (λ s. Some s) same;
-      live = w.live;
-      is = w.is;
-      committed =
-          w.committed;
-      has = w.has;
-      number = w.number;
-    }
-
 stamper_at : (n table row k : ℕ) (seat : Seat) (seats : List Seat) (found : Option ℕ)
     → stamper_in n table row seat ≡ found
     → elim found as (λ x. Option ℕ) [ None ↦ stamper_among n table row seats | Some number ↦ Some number ] ≡ Some k
-    → (stamper_among n table row seats ≡ Some k → Stamper n table row k seats) → Stamper n table row k (seat ∷ seats)
-stamper_at n table row k seat seats None is e rest = later_stamper n table row k seat seats (rest e)
-stamper_at n table row k seat seats (Some number) is e rest = first_stamper n table row k seat seats
+    → (stamper_among n table row seats ≡ Some k → Owner (Some n) table row k seats) → Owner (Some n) table row k (seat ∷ seats)
+stamper_at n table row k seat seats None is e rest = later_owner (Some n) table row k seat seats (rest e)
+stamper_at n table row k seat seats (Some number) is e rest = first_owner (Some n) table row k seat seats
     (stamps_parts n table row k seat seat.live refl (is ∙ e))
 
 pub stamper_is : (n table row k : ℕ) (seats : List Seat) → stamper_among n table row seats ≡ Some k
-    → Stamper n table row k seats
+    → Owner (Some n) table row k seats
 stamper_is n table row k [] e = cc
 stamper_is n table row k (seat ∷ seats) e = stamper_at n table row k seat seats (stamper_in n table row seat) refl e
     (stamper_is n table row k seats)
@@ -489,9 +413,9 @@ held_stamped core fits number start table row above none less (Some k) is =
     let w = stamper_is n table row k (all_but number core.seats) is in
     let l = last_above start table row core.now.commits n refl less in
     subst (λ m. list_any (session_holds core.opened core.now start m table row)
-    (others core.now.sessions number) ≡ true) w.number
-    (seat_holds core fits number start table row above w.place w.seat w.live w.there w.is w.has
-    (ap (λ commit. is_last_above core.now.commits start table row commit) w.committed
+    (others core.now.sessions number) ≡ true) w.owns.number
+    (seat_holds core fits number start table row above w.place w.seat w.owns.live w.there w.owns.is w.owns.has
+    (ap (λ commit. is_last_above core.now.commits start table row commit) w.owns.commits
     ∙ and_from _ _ less (ap not l.2)))
 held_stamped core fits number start table row above none less None is =
     let n = last_change table row core.now.commits in
@@ -513,9 +437,9 @@ held_found : (core : Core) → Fits core → (number start table row : ℕ) → 
 held_found core fits number start table row above (Some k) is unseen =
     let w = writer_is table row k (all_but number core.seats) is in
     subst (λ m. list_any (session_holds core.opened core.now start m table row)
-    (others core.now.sessions number) ≡ true) w.number
-    (seat_holds core fits number start table row above w.place w.seat w.live w.there w.is w.has
-    (ap (λ commit. is_last_above core.now.commits start table row commit) w.none))
+    (others core.now.sessions number) ≡ true) w.owns.number
+    (seat_holds core fits number start table row above w.place w.seat w.owns.live w.there w.owns.is w.owns.has
+    (ap (λ commit. is_last_above core.now.commits start table row commit) w.owns.commits))
 held_found core fits number start table row above None is unseen =
     held_stamped core fits number start table row above is unseen
     (stamper_among (last_change table row core.now.commits) table row (all_but number core.seats)) refl

@@ -1,7 +1,7 @@
 -- What each event of the core keeps: the machine's part is the state of a legal history, and each session's seat
 -- agrees with
 -- what the machine knows of the session.
-use Rattle.std.proofs.Common.{◌≡◌, ◌⊎◌, ℕ, ◌+◌, ◌<◌, ◌≤◌, true, false, List, [], length, Option, Some, None, slice_get}
+use Rattle.std.proofs.Common.{◌≡◌, ◌⊎◌, ℕ, ◌+◌, ◌<◌, ◌≤◌, true, false, List, [], length, Option, Some, None, slice_get, slice_set, ◌-◌}
 use Rattle.std.specs.Prelude.{Bool, ◌&&◌, is_none}
 use Rattle.dk_types.specs.declared.net.Commit.{Commit}
 use Rattle.dk_types.specs.declared.reply.Refusal.{Refusal}
@@ -24,7 +24,7 @@ use Rattle.dk_si.specs.Exchanges.{exchanges}
 use Rattle.dk_si.specs.IsLegal.{stops_well, iterates_well}
 use Rattle.dk_core.specs.declared.seat.Snapshot.{Snapshot}
 use Rattle.dk_core.specs.declared.seat.Seat.{Seat}
-use Rattle.dk_core.specs.Core.{Core, unstamped}
+use Rattle.dk_core.specs.Core.{Core, seat_at, unstamped}
 use Rattle.dk_core.specs.Findings.{writer_in}
 use Rattle.dk_core.specs.Allows.{is_open, is_active, allows_locally}
 use Rattle.dk_core.specs.Entries.{entry_of, entries_after, state_with}
@@ -114,6 +114,13 @@ pub record Fits (core : Core) : Type 0 where
 -- a core with these entries, this state and these seats
 abbrev pub core_with : Core → List Entry → Machine → List Seat → Core
 core_with core entries now seats = record core { entries = entries; now = now; seats = seats }
+
+-- its seats, where that of this session is changed so
+abbrev pub with_change : Core → ℕ → (Seat → Seat) → List Seat
+with_change core number change = elim (seat_at core.seats number) as (λ x. List Seat) [
+  | None ↦ core.seats
+  | Some seat ↦ slice_set core.seats (number - 1) (change seat)
+]
 
 -- the part of the core after an event that the invariant is about
 abbrev pub moved : Core → Event → Core

@@ -11,8 +11,7 @@ use Rattle.dk_si.specs.declared.limits.TheConstants.{SESSIONS}
 use Rattle.dk_si.specs.Machine.{idle}
 use Rattle.dk_si.specs.declared.history.Entry.{Entry}
 use Rattle.dk_si.specs.IsLegal.{is_legal}
-use Rattle.dk_si.specs.Standing.{stands_on, standing_and, standing_after}
-use Rattle.dk_si.specs.declared.standing.Standing.{Standing}
+use Rattle.dk_si.specs.Standing.{FullStanding, stands_on, standing_and, standing_after}
 use Rattle.dk_si.proofs.StandingLemmas.{standing_and_one}
 use Rattle.dk_si.proofs.StandingLemmas.{stands_well as stands_well_and_one}
 use Rattle.dk_si.proofs.PlaceLemmas.{same_copies}
@@ -68,7 +67,7 @@ pub record Sound (core : Core) : Type 0 where
   pub carried : core.standing ≡ standing_after core.iteration core.entries
 
 -- the invariant asks nothing of what is carried beside, and of where rows stand
-refit : (core : Core) (standing : Standing) (layout : List (List ℕ)) → Fits core
+refit : (core : Core) (standing : FullStanding) (layout : List (List ℕ)) → Fits core
     → Fits (record core { standing = standing; layout = layout })
 refit core standing layout fits = record {
   is_now = fits.is_now;

@@ -1,6 +1,6 @@
 -- Each event keeps that a row that a transaction deleted has no newer version of the transaction.
 use Rattle.dk_core.proofs.VersionLemmas.{grown_with}
-use Rattle.std.proofs.Common.{◌≡◌, ⊎_elim, ℕ, ◌+◌, ◌-◌, ◌<◌, Bool, true, false, List, [], ◌∷◌, length, Option, Some, None, ap, ◌∙◌, sym, refl, subst, slice_get, slice_set, inl, inr, ◌⊎◌}
+use Rattle.std.proofs.Common.{◌≡◌, ⊎_elim, ℕ, ◌+◌, ◌-◌, ◌<◌, Bool, true, false, List, [], ◌∷◌, length, Option, Some, None, ap, ◌∙◌, sym, refl, subst, slice_get, inl, inr, ◌⊎◌}
 use Rattle.std.specs.Prelude.{◌&&◌, ◌||◌, not, is_none, is_some, ◌==◌, nat_lt, if◌then◌else◌}
 use Rattle.std.specs.List.{list_all, filter}
 use Rattle.std.proofs.lemmas.Bool.{true≢false, false≢true, and_parts, or_cases, not-true, eqb-true, and_from, or_left, or_right, cases_Bool}
@@ -25,16 +25,15 @@ use Rattle.dk_si.proofs.PlaceLemmas.{same_copies}
 use Rattle.dk_si.proofs.TransitionLemmas.{session_of}
 use Rattle.dk_core.specs.declared.event.Event.{Event}
 use Rattle.dk_core.specs.declared.seat.Seat.{Seat}
-use Rattle.dk_core.specs.Changes.{is_change_of, is_fresh_part, are_fresh_rows, is_meant, is_part_of, has_update, has_no_change}
-use Rattle.dk_core.specs.Commits.{may_append, may_adopt, may_point, is_committing}
+use Rattle.dk_core.specs.Changes.{is_fresh_part, are_fresh_rows, is_meant, is_part_of, has_update, has_no_change}
+use Rattle.dk_core.specs.Commits.{may_append, may_adopt, may_commit, may_point, is_committing}
 use Rattle.dk_core.specs.Core.{Core, no_seat, first_core, seat_at, unstamped, next_snapshot, next_receipt}
 use Rattle.dk_core.specs.Entries.{entry_of, with_entry, entries_after, state_with}
 use Rattle.dk_core.specs.Findings.{is_full, spent_numbers}
 use Rattle.dk_core.specs.Laws.{core_after, all_allowed, OrderedOverEveryList}
-use Rattle.dk_core.specs.Layout.{groups_of}
 use Rattle.dk_core.specs.Versions.{is_deleted_by, is_ordered}
-use Rattle.dk_core.proofs.Invariant.{Fits, core_with, moved}
-use Rattle.dk_core.proofs.ChangeLemmas.{part_ids, part_below, part_goes, part_writes, in_ids}
+use Rattle.dk_core.proofs.Invariant.{with_change, Fits, core_with, moved}
+use Rattle.dk_core.proofs.ChangeLemmas.{by_change, part_ids, part_below, part_goes, part_writes, in_ids}
 use Rattle.dk_core.proofs.LegalLemmas.{Sound, step_keeps, first_sound}
 use Rattle.dk_core.proofs.PointLemmas.{Points, points}
 use Rattle.dk_core.proofs.SeatLemmas.{goes_uncommitted}
@@ -54,7 +53,7 @@ use Rattle.dk_core.specs.Replies.{is_open_transaction, leaves_open, suits_findin
 use Rattle.dk_core.proofs.CallLemmas.{next_call, next_begun}
 use Rattle.dk_core.proofs.DeleteLemmas.{delete_stays, delete_gains, deleted_is_gone}
 use Rattle.dk_core.proofs.ReplyLemmas.{is_changed_reply, quiet_of, rolled_back, none_made, next_reply}
-use Rattle.dk_core.proofs.VersionLemmas.{begin_entry, change_cases}
+use Rattle.dk_core.proofs.VersionLemmas.{begin_change, begin_entry, change_cases}
 use Rattle.dk_types.specs.declared.reply.Refusal.TheVariants as refusal
 use Rattle.dk_types.specs.declared.reply.Reply.TheVariants as told
 use Rattle.dk_si.specs.declared.history.Entry.TheVariants as history
@@ -161,24 +160,23 @@ change_ordered core seat active asked part table row net fresh known ordered =
 
 -- the seat behind a Change
 change_deleted : (core : Core) → Fits core → Deleted core → (number : ℕ) (at : VectorId) (part : TableNet)
-    → (transaction : Transaction) (asked : Option Asked) (touched : Option WriteSet) (past : Option LastTransaction)
-    (seat : Seat)
-    → slice_get core.now.sessions (number - 1) ≡ Some (session_of transaction asked touched past)
-    → slice_get core.seats (number - 1) ≡ Some seat
-    → may.may_change core at part (session_of transaction asked touched past) seat ≡ true
+    (f : Found core number (may.may_change core at part))
+    → ((table row : ℕ) → is_ordered table row (unstamped (does.seat_after_change core number part f.seat)) ≡ true)
+    × KnownBy core.opened core.now.commits (does.seat_after_change core number part f.seat) f.session.asked
+    f.session.transaction
+change_deleted core fits deleted number at part f =
+    let seat = f.seat in
+    let there = f.seat_there in
+    let touched = f.session.writes in
+    let past = f.session.last in
+    by_change core at part touched past seat
+    (λ transaction asked. slice_get core.now.sessions (number - 1) ≡ Some (session_of transaction asked touched past)
     → ((table row : ℕ) → is_ordered table row (unstamped (does.seat_after_change core number part seat)) ≡ true)
-    × KnownBy core.opened core.now.commits (does.seat_after_change core number part seat) asked transaction
-change_deleted core fits deleted number at part state.Outside asked touched past seat here there passes =
-    absurd (false≢true passes)
-change_deleted core fits deleted number at part state.Aborted asked touched past seat here there passes =
-    absurd (false≢true passes)
-change_deleted core fits deleted number at part (state.Open active) None touched past seat here there passes =
-    absurd (false≢true passes)
-change_deleted core fits deleted number at part (state.Open active) (Some asked) touched past seat here there passes =
+    × KnownBy core.opened core.now.commits (does.seat_after_change core number part seat) asked transaction)
+    (λ active asked is here.
     let n = committed_count core.opened core.now.commits active part.table in
     let meaning = meaning_in core.opened core.now.commits active asked in
     let session = session_of (state.Open active) (Some asked) touched past in
-    let is = (and_parts _ (is_change_of (groups_of core.layout part.table) n seat.made meaning at part) passes).1 in
     let h = and_parts _ (is_fresh_part n seat.made meaning part) is in
     let goes = part_goes core active asked seat.made part n h.1 in
     let known = deleted.known (number - 1) session seat here there in
@@ -198,7 +196,8 @@ change_deleted core fits deleted number at part (state.Open active) (Some asked)
             (or_cases (part.table == table && has_id part.deletes row) (is_deleted_by table row seat.made) gone)),
       )),
     )
-    (λ refusal. (ordered, known))
+    (λ refusal. (ordered, known)))
+    f.session.transaction f.session.asked f.passes f.session_there
 
 -- the seat behind an Append or an Adopt
 appended_ordered : (own table row : ℕ) (rows : List (List Value)) (parts : List TableNet)
@@ -454,10 +453,7 @@ commit_deleted : (core : Core) → Fits core → Deleted core → (event : Event
     → Points core number reply seat
     → Deleted
     (core_with core (entries_after core event) (state_with core (entry_of core event))
-    (elim (seat_at core.seats number) as (λ x. List Seat) [
-      | None ↦ core.seats
-      | Some seat ↦ slice_set core.seats (number - 1) (does.seat_after_commit core seat)
-    ]))
+    (with_change core number (does.seat_after_commit core)))
 commit_deleted core fits deleted event number reply seat entry is there p =
     let now = state_with core (entry_of core event) in
     let same : now ≡ next core.opened core.now (history.Reply number reply) = ap (λ e. state_with core e) entry in
@@ -471,17 +467,25 @@ commit_deleted core fits deleted event number reply seat entry is there p =
     (λ table row. commit_ordered core number reply seat p table row
     (deleted.ordered (number - 1) seat table row there))
 
+-- the core behind an event that is allowed as a commit of this reply
+commits_deleted : (core : Core) → Fits core → Deleted core → (event : Event) (number : ℕ) (reply : Reply)
+    (test : Session → Seat → Bool) (also : Bool) → is_commit reply ≡ true
+    → entry_of core event ≡ Some (history.Reply number reply)
+    → ((session : Session) (seat : Seat) → test session seat ≡ true → may_commit core reply session seat ≡ true)
+    → (may.at_session core number test && also) ≡ true
+    → Deleted (core_with core (entries_after core event) (state_with core (entry_of core event))
+    (with_change core number (does.seat_after_commit core)))
+commits_deleted core fits deleted event number reply test also commits entry tells allowed =
+    let f = found core number test (and_parts (may.at_session core number test) also allowed).0 in
+    commit_deleted core fits deleted event number reply f.seat entry f.seat_is f.seat_there
+    (points core fits number reply test commits tells f)
+
 begin_deleted : (core : Core) → Fits core → Deleted core
     → (number : ℕ) (f : Found core number may.may_begin) (full : Bool)
     → Deleted
     (core_with core (with_entry core.entries (begin_entry core number full))
     (state_with core (begin_entry core number full))
-    (elim (seat_at core.seats number) as (λ x. List Seat) [
-      | None ↦ core.seats
-      | Some seat ↦ slice_set core.seats (number - 1)
-          (if full then record seat { found = Some (refusal.Exhausted (spent_numbers core)) } else record no_seat
-          { live = Some (next_snapshot core.now) })
-    ]))
+    (with_change core number (begin_change core full)))
 begin_deleted core fits deleted number f true =
     with_seat_deleted core fits deleted core.entries core.now number f.seat
     (λ seat. record seat { found = Some (refusal.Exhausted (spent_numbers core)) }) f.seat_is
@@ -517,13 +521,21 @@ still_deleted : (core : Core) → Fits core → Deleted core
     → seat_at core.seats number ≡ Some seat → slice_get core.now.sessions (number - 1) ≡ Some session
     → KnownBy core.opened core.now.commits (change seat) session.asked session.transaction
     → ((table row : ℕ) → is_ordered table row (unstamped (change seat)) ≡ true)
-    → Deleted (core_with core core.entries core.now (elim (seat_at core.seats number) as (λ x. List Seat) [
-      | None ↦ core.seats
-      | Some seat ↦ slice_set core.seats (number - 1) (change seat)
-    ]))
+    → Deleted (core_with core core.entries core.now (with_change core number change))
 still_deleted core fits deleted number session seat change is here known ordered =
     with_seat_deleted core fits deleted core.entries core.now number seat change is (grown_with core None)
     (own_session core (number - 1) session (change seat) here known) ordered
+
+placed_deleted : (core : Core) → Fits core → Deleted core → (number table : ℕ) (rows : List (List Value))
+    → {test : Session → Seat → Bool} → (f : Found core number test)
+    → Deleted (core_with core core.entries core.now (with_change core number (does.seat_after_placing table rows)))
+placed_deleted core fits deleted number table rows f =
+    still_deleted core fits deleted number f.session f.seat (does.seat_after_placing table rows) f.seat_is
+    f.session_there
+    (placing_known core.opened core.now.commits f.seat table rows f.session.asked f.session.transaction
+    (deleted.known (number - 1) f.session f.seat f.session_there f.seat_there))
+    (λ t row. appended_ordered table t row rows (unstamped f.seat)
+    (deleted.ordered (number - 1) f.seat t row f.seat_there))
 
 not_going : (b : Bool) (seat : Seat) (session : Session) → (b && not (may.is_active session)) ≡ true
     → may.is_active session ≡ true → ⊥
@@ -556,29 +568,15 @@ event_deleted core fits deleted (event.Begin number) allowed =
     begin_deleted core fits deleted number (found core number may.may_begin allowed) (is_full core)
 event_deleted core fits deleted (event.Change number at part) allowed =
     let f = found core number (may.may_change core at part) allowed in
-    let s = f.session in
-    let c = change_deleted core fits deleted number at part s.transaction s.asked s.writes s.last f.seat
-    f.session_there f.seat_there f.passes in
-    still_deleted core fits deleted number s f.seat (does.seat_after_change core number part) f.seat_is
+    let c = change_deleted core fits deleted number at part f in
+    still_deleted core fits deleted number f.session f.seat (does.seat_after_change core number part) f.seat_is
     f.session_there c.1 c.0
 event_deleted core fits deleted (event.Append number table group first rows) allowed =
-    let f = found core number (may_append core table group first rows)
-    (and_parts (may.at_session core number (may_append core table group first rows)) _ allowed).0 in
-    still_deleted core fits deleted number f.session f.seat (does.seat_after_placing table rows) f.seat_is
-    f.session_there
-    (placing_known core.opened core.now.commits f.seat table rows f.session.asked f.session.transaction
-    (deleted.known (number - 1) f.session f.seat f.session_there f.seat_there))
-    (λ t row. appended_ordered table t row rows (unstamped f.seat)
-    (deleted.ordered (number - 1) f.seat t row f.seat_there))
+    placed_deleted core fits deleted number table rows (found core number (may_append core table group first rows)
+    (and_parts (may.at_session core number (may_append core table group first rows)) _ allowed).0)
 event_deleted core fits deleted (event.Adopt number table group first rows) allowed =
-    let f = found core number (may_adopt core table group first rows)
-    (and_parts (may.at_session core number (may_adopt core table group first rows)) _ allowed).0 in
-    still_deleted core fits deleted number f.session f.seat (does.seat_after_placing table rows) f.seat_is
-    f.session_there
-    (placing_known core.opened core.now.commits f.seat table rows f.session.asked f.session.transaction
-    (deleted.known (number - 1) f.session f.seat f.session_there f.seat_there))
-    (λ t row. appended_ordered table t row rows (unstamped f.seat)
-    (deleted.ordered (number - 1) f.seat t row f.seat_there))
+    placed_deleted core fits deleted number table rows (found core number (may_adopt core table group first rows)
+    (and_parts (may.at_session core number (may_adopt core table group first rows)) _ allowed).0)
 event_deleted core fits deleted (event.Point number (done.Create name schema) moment) allowed =
     let test = may_point core (done.Create name schema) moment in
     let f = found core number test (and_parts (may.at_session core number test) _ allowed).0 in
@@ -588,26 +586,14 @@ event_deleted core fits deleted (event.Point number (done.Create name schema) mo
     (deleted.known (number - 1) f.session f.seat f.session_there f.seat_there))
     (λ t row. deleted.ordered (number - 1) f.seat t row f.seat_there)
 event_deleted core fits deleted (event.Point number done.Created moment) allowed =
-    let test = may_point core done.Created moment in
-    let reply = told.Created (next_receipt core.now moment) in
-    let f = found core number test (and_parts (may.at_session core number test) _ allowed).0 in
-    commit_deleted core fits deleted (event.Point number done.Created moment) number reply f.seat refl f.seat_is
-    f.seat_there
-    (points core fits number reply test refl (λ session seat passes. (and_parts (is_some seat.creates) _ passes).1) f)
+    commits_deleted core fits deleted (event.Point number done.Created moment) number (told.Created (next_receipt core.now moment))
+    (may_point core done.Created moment) _ refl refl (λ session seat passes. (and_parts (is_some seat.creates) _ passes).1) allowed
 event_deleted core fits deleted (event.Point number (done.Changed count) moment) allowed =
-    let test = may_point core (done.Changed count) moment in
-    let reply = told.Changed count (Some (next_receipt core.now moment)) in
-    let f = found core number test (and_parts (may.at_session core number test) _ allowed).0 in
-    commit_deleted core fits deleted (event.Point number (done.Changed count) moment) number reply f.seat refl
-    f.seat_is f.seat_there
-    (points core fits number reply test refl (λ session seat passes. (and_parts (is_none seat.creates) _ passes).1) f)
+    commits_deleted core fits deleted (event.Point number (done.Changed count) moment) number (told.Changed count (Some (next_receipt core.now moment)))
+    (may_point core (done.Changed count) moment) _ refl refl (λ session seat passes. (and_parts (is_none seat.creates) _ passes).1) allowed
 event_deleted core fits deleted (event.Point number done.Commit moment) allowed =
-    let test = may_point core done.Commit moment in
-    let reply = told.Committed (next_receipt core.now moment) in
-    let f = found core number test (and_parts (may.at_session core number test) _ allowed).0 in
-    commit_deleted core fits deleted (event.Point number done.Commit moment) number reply f.seat refl f.seat_is
-    f.seat_there
-    (points core fits number reply test refl (λ session seat passes. (and_parts (is_none seat.creates) _ passes).1) f)
+    commits_deleted core fits deleted (event.Point number done.Commit moment) number (told.Committed (next_receipt core.now moment))
+    (may_point core done.Commit moment) _ refl refl (λ session seat passes. (and_parts (is_none seat.creates) _ passes).1) allowed
 event_deleted core fits deleted (event.Stamp number) allowed =
     let f = found core number may.may_stamp allowed in
     let s = f.session in

@@ -24,7 +24,7 @@ use Rattle.dk_si.proofs.TransitionLemmas.{session_of}
 use Rattle.dk_core.specs.declared.seat.Seat.{Seat}
 use Rattle.dk_core.specs.Core.{Core, seat_at, unstamped}
 use Rattle.dk_core.specs.Versions.{is_deleted_by, is_ordered}
-use Rattle.dk_core.proofs.Invariant.{Fits, core_with, Links}
+use Rattle.dk_core.proofs.Invariant.{with_change, Fits, core_with, Links}
 use Rattle.dk_core.proofs.ChangeLemmas.{same_at}
 use Rattle.dk_core.proofs.StepLemmas.{not_so}
 use Rattle.std.proofs.lemmas.List.Folds.{list_any-append}
@@ -116,10 +116,7 @@ pub with_seat_deleted : (core : Core) → Fits core → Deleted core
     → ((k ≡ number - 1) × KnownBy core.opened now.commits (change seat) s.asked s.transaction) ⊎
     ((k ≡ number - 1 → ⊥) × (slice_get core.now.sessions k ≡ Some s)))
     → ((table row : ℕ) → is_ordered table row (unstamped (change seat)) ≡ true)
-    → Deleted (core_with core entries now (elim (seat_at core.seats number) as (λ x. List Seat) [
-      | None ↦ core.seats
-      | Some seat ↦ slice_set core.seats (number - 1) (change seat)
-    ]))
+    → Deleted (core_with core entries now (with_change core number change))
 with_seat_deleted core fits deleted entries now number seat change is grown sessions ordered =
     subst (λ found. Deleted (core_with core entries now (elim found as (λ x. List Seat) [
       | None ↦ core.seats

@@ -1,4 +1,5 @@
 -- A Point keeps what fits.
+use Rattle.dk_core.proofs.HolderLemmas.{writes_parts}
 use Rattle.dk_core.proofs.StepLemmas.{neither}
 use Rattle.dk_core.specs.Allows as may
 use Rattle.dk_core.specs.Commits as in_commits
@@ -11,7 +12,7 @@ use Rattle.std.proofs.lemmas.Bool.{true≢false, false≢true, and_parts}
 use Rattle.dk_types.specs.declared.net.TableNet.{TableNet}
 use Rattle.dk_values.specs.declared.column.Column.{Column}
 use Rattle.dk_types.specs.declared.net.Commit.{Commit}
-use Rattle.dk_si.proofs.PlaceLemmas.{set_place}
+use Rattle.dk_si.proofs.PlaceLemmas.{set_length, set_place}
 use Rattle.dk_si.specs.declared.database.Table.{Table}
 use Rattle.dk_si.specs.declared.history.Asked.{Asked}
 use Rattle.dk_si.specs.declared.history.Entry.{Entry}
@@ -39,7 +40,7 @@ use Rattle.dk_types.specs.declared.reply.Reply.{Reply}
 use Rattle.dk_syntax.specs.declared.statement.Statement.{Statement}
 use Rattle.dk_si.specs.declared.history.Asked.TheVariants.{Unread, Bad, Good}
 use Rattle.dk_si.specs.HeldRows.{is_rollback, commit_has}
-use Rattle.dk_core.proofs.CallLemmas.{writes_parts, set_length, steps_more, now_more, still_founded}
+use Rattle.dk_core.proofs.CallLemmas.{steps_more, now_more, still_founded}
 use Rattle.dk_core.specs.declared.event.Done.{Done}
 use Rattle.dk_core.proofs.ReplyLemmas.{NetsGrow, LeftBy, quiet_of, told_allowed, told_left, rolled_back, next_reply}
 use Rattle.dk_core.proofs.SeatLemmas.{less_keeps, seat_step}
@@ -297,8 +298,8 @@ point_found grow core fits number reply active asked touched past seat above is 
           move.net behind c.0 refl left));
       others = λ k other live table row apart where_is here none has. (
         (λ m w. let p = writes_parts table row m new new.live refl w in
-            let e = some_live (record mine { commit = Some (n + 1) }) p.0 p.1 in
-            not_none (n + 1) (ap (λ x. x.commit) e ∙ p.2)),
+            let e = some_live (record mine { commit = Some (n + 1) }) p.live p.is in
+            not_none (n + 1) (ap (λ x. x.commit) e ∙ p.commits)),
         (λ i commit at_i has_it.
             (sits.free mine table row linked refl
             (allowed table row

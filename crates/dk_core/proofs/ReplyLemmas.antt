@@ -40,14 +40,14 @@ use Rattle.dk_core.proofs.ChangeLemmas.{part_ids, alone_but}
 use Rattle.dk_types.specs.declared.reply.Receipt.{Receipt}
 use Rattle.dk_types.specs.declared.reply.Reply.{Reply}
 use Rattle.dk_si.specs.declared.history.Asked.TheVariants.{Unread, Bad, Good}
-use Rattle.dk_si.proofs.PlaceLemmas.{each_id}
+use Rattle.dk_si.proofs.PlaceLemmas.{set_length, each_id}
 use Rattle.dk_core.proofs.HolderLemmas.{has_parts}
 use Rattle.dk_si.proofs.NetLemmas.{net_stays, net_gains}
 use Rattle.dk_types.specs.Nets.{IsNet}
 use Rattle.dk_si.proofs.MergedNetLemmas.{further_net}
 use Rattle.dk_si.specs.declared.meaning.Meaning.{Meaning}
 use Rattle.dk_si.specs.Database.{after}
-use Rattle.dk_core.proofs.CallLemmas.{set_length, entry_moved, steps_more, now_more, conflict_free, not_there, untouched_row}
+use Rattle.dk_core.proofs.CallLemmas.{entry_moved, steps_more, now_more, conflict_free, not_there, untouched_row}
 use Rattle.dk_si.specs.declared.history.Entry.TheVariants as history
 use Rattle.dk_si.specs.declared.machine.Transaction.TheVariants as state
 use Rattle.dk_core.specs.declared.event.Event.TheVariants as event
@@ -357,29 +357,32 @@ told_own core fits entries now number active asked touched past seat later net n
     }
 
 -- a session that is over behind a reply, whose seat has no snapshot
+closed_so : (core : Core) (entries : List Entry) (now : Machine) (place : ℕ) (seat : Seat) (later : Transaction)
+    → Links (length now.commits) (does.seat_after_reply seat) (session_behind later None None) later → Lawful later
+    → ((table row : ℕ) → has_pending_write table row (session_behind later None None) ≡ true
+    → Has (does.seat_after_reply seat) table row)
+    → seat.live ≡ None
+    → Sits core.opened entries now (slice_set core.seats place (does.seat_after_reply seat)) place
+    (session_behind later None None) (does.seat_after_reply seat)
+closed_so core entries now place seat later links lawful kept none = record {
+  links = links;
+  lawful = lawful;
+  kept = kept;
+  claimed = λ live table row is has. absurd (not_there live (sym none ∙ is));
+  free = λ live table row is un has. absurd (not_there live (sym none ∙ is));
+  quiet = λ off asks. none;
+  found = λ refusal is. cc;
+}
+
 closed_own : (core : Core) (entries : List Entry) (now : Machine) (place : ℕ) (seat : Seat) (later : Transaction)
     → in_replies.is_open_transaction later ≡ false → seat.live ≡ None
     → Sits core.opened entries now (slice_set core.seats place (does.seat_after_reply seat)) place
     (session_behind later None None) (does.seat_after_reply seat)
 closed_own core entries now place seat (state.Open active) closed none = absurd (true≢false closed)
-closed_own core entries now place seat state.Outside closed none = record {
-  links = tt;
-  lawful = tt;
-  kept = λ table row has. absurd (false≢true has);
-  claimed = λ live table row is has. absurd (not_there live (sym none ∙ is));
-  free = λ live table row is un has. absurd (not_there live (sym none ∙ is));
-  quiet = λ off asks. none;
-  found = λ refusal is. cc;
-}
-closed_own core entries now place seat state.Aborted closed none = record {
-  links = tt;
-  lawful = tt;
-  kept = λ table row has. absurd (false≢true has);
-  claimed = λ live table row is has. absurd (not_there live (sym none ∙ is));
-  free = λ live table row is un has. absurd (not_there live (sym none ∙ is));
-  quiet = λ off asks. none;
-  found = λ refusal is. cc;
-}
+closed_own core entries now place seat state.Outside closed none =
+    closed_so core entries now place seat state.Outside tt tt (λ table row has. absurd (false≢true has)) none
+closed_own core entries now place seat state.Aborted closed none =
+    closed_so core entries now place seat state.Aborted tt tt (λ table row has. absurd (false≢true has)) none
 
 pub rolled_back : (core : Core) (active : OpenTransaction) (asked : Asked) (reply : Reply)
     → asks_for is_rollback (Some asked) ≡ true

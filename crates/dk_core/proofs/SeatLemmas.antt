@@ -1,4 +1,5 @@
 -- Events that change a seat alone keep what fits.
+use Rattle.dk_si.proofs.PlaceLemmas.{set_length}
 use Rattle.dk_core.specs.Allows as may
 use Rattle.dk_core.specs.Step as does
 use Rattle.std.proofs.Common.{arith, ◌≡◌, ⊎_elim, ℕ, zero, suc, ◌-◌, Bool, true, false, List, [], ◌∷◌, take, length, Some, None, ap, ◌∙◌, sym, refl, subst, slice_get, slice_set}
@@ -16,12 +17,12 @@ use Rattle.dk_si.specs.HeldRows.{has_pending_write}
 use Rattle.dk_core.specs.declared.seat.Snapshot.{Snapshot}
 use Rattle.dk_core.specs.declared.seat.Seat.{Seat}
 use Rattle.dk_core.specs.Core.{Core, seat_at}
-use Rattle.dk_core.proofs.Invariant.{core_with, moved, Has, Links, Fits, ClaimsBy}
-use Rattle.dk_core.proofs.StepLemmas.{found, writes_is, live_of, made_has, keeps_goes}
+use Rattle.dk_core.proofs.Invariant.{with_change, core_with, moved, Has, Links, Fits, ClaimsBy}
+use Rattle.dk_core.proofs.StepLemmas.{Found, found, writes_is, live_of, made_has, keeps_goes}
 use Rattle.dk_core.proofs.MoveLemmas.{stays}
 use Rattle.dk_core.proofs.ChangeLemmas.{unmoved, alone_but}
-use Rattle.dk_core.proofs.HolderLemmas.{has_parts}
-use Rattle.dk_core.proofs.CallLemmas.{writes_parts, set_length, not_there}
+use Rattle.dk_core.proofs.HolderLemmas.{writes_parts, has_parts}
+use Rattle.dk_core.proofs.CallLemmas.{not_there}
 use Rattle.dk_si.specs.declared.machine.Transaction.TheVariants as state
 use Rattle.dk_core.specs.declared.event.Event.TheVariants as event
 use Rattle.std.proofs.lemmas.List.Folds.{list_any-append}
@@ -78,7 +79,7 @@ less_keeps core fits place session seat new at there less kept =
     (unmoved core fits place session seat new at there
     (λ k other live table row apart where_is is none has n w.
     let p = writes_parts table row n new new.live refl w in
-    (sits.free p.0 table row (sym less.live ∙ p.1) p.2 (less_has seat new less table row p.3)).alone k other
+    (sits.free p.live table row (sym less.live ∙ p.is) p.commits (less_has seat new less table row p.has)).alone k other
     live.number apart where_is (writes_is table row other live is none has))
     (record {
       links = less_links (length core.now.commits) seat new session session.transaction less.live sits.links;
@@ -113,7 +114,7 @@ gone_keeps core fits place session seat new at there gone found stops =
     stays core core.entries core.now (slice_set core.seats place new) place session new fits
     (unmoved core fits place session seat new at there
     (λ k other live table row apart where_is is none has n w.
-    let p = writes_parts table row n new new.live refl w in absurd (not_there p.0 (sym gone ∙ p.1)))
+    let p = writes_parts table row n new new.live refl w in absurd (not_there p.live (sym gone ∙ p.is)))
     (record {
       links = gone_links (length core.now.commits) new session session.transaction (length core.now.commits) seat
           stops sits.links refl;
@@ -160,78 +161,76 @@ take_has (suc n) (part ∷ parts) table row has = ⊎_elim
 pub seat_step : (core : Core) (number : ℕ) (seat : Seat) (change : Seat → Seat)
     → seat_at core.seats number ≡ Some seat
     → Fits (core_with core core.entries core.now (slice_set core.seats (number - 1) (change seat)))
-    → Fits (core_with core core.entries core.now (elim (seat_at core.seats number) as (λ x. List Seat) [
-      | None ↦ core.seats
-      | Some seat ↦ slice_set core.seats (number - 1) (change seat)
-    ]))
+    → Fits (core_with core core.entries core.now (with_change core number change))
 seat_step core number seat change is fits =
     subst (λ found. Fits (core_with core core.entries core.now (elim found as (λ x. List Seat) [
       | None ↦ core.seats
       | Some seat ↦ slice_set core.seats (number - 1) (change seat)
     ]))) (sym is) fits
 
+-- some versions are let go of a transaction that is active no longer
+versions_step : (core : Core) → Fits core → (number : ℕ) → {test : Session → Seat → Bool} → (f : Found core number test)
+    → (change : List TableNet → List TableNet)
+    → ((table row : ℕ) → net_has (change f.seat.versions) table row ≡ true → net_has f.seat.versions table row ≡ true)
+    → (may.is_active f.session ≡ true → ⊥)
+    → Fits (core_with core core.entries core.now
+    (with_change core number (λ seat. record seat { versions = change seat.versions })))
+versions_step core fits number f change less stops =
+    let s = f.session in
+    seat_step core number f.seat (λ seat. record seat { versions = change seat.versions }) f.seat_is
+    (less_keeps core fits (number - 1) s f.seat (record f.seat { versions = change f.seat.versions }) f.session_there
+    f.seat_there (record { live = refl; found = refl; made = λ table row has. has; versions = less })
+    (λ table row has. absurd (stops (keeps_goes table row s.transaction s.asked s.writes s.last has))))
+
+-- and its snapshot
+gone_step : (core : Core) → Fits core → (number : ℕ) → {test : Session → Seat → Bool} → (f : Found core number test)
+    → (may.is_active f.session ≡ true → ⊥)
+    → Fits (core_with core core.entries core.now (with_change core number (λ seat. record seat { live = None })))
+gone_step core fits number f stops =
+    seat_step core number f.seat (λ seat. record seat { live = None }) f.seat_is
+    (gone_keeps core fits (number - 1) f.session f.seat (record f.seat { live = None }) f.session_there f.seat_there
+    refl refl stops)
+
+-- a transaction that is committed is active no longer
+committed_stops : (core : Core) → Fits core → (number : ℕ) → {test : Session → Seat → Bool} → (f : Found core number test)
+    → may.is_committed f.seat ≡ true → may.is_active f.session ≡ true → ⊥
+committed_stops core fits number f committed =
+    goes_uncommitted core fits (number - 1) f.session f.seat f.session_there f.seat_there committed
+
+-- a transaction that goes back is active no longer
+gone_back : (session : Session) (seat : Seat) (also : Bool) → (may.may_go_back session seat && also) ≡ true
+    → may.is_active session ≡ true → ⊥
+gone_back session seat also passes goes =
+    let off = (and_parts (is_some seat.live && not (may.is_committed seat)) (not (may.is_active session))
+    (and_parts (may.may_go_back session seat) also passes).0).1 in
+    false≢true (sym (not-true (may.is_active session) off) ∙ goes)
+
 pub stamp_keeps : (core : Core) → Fits core → (number : ℕ) → may.at_session core number may.may_stamp ≡ true
     → Fits (moved core (event.Stamp number))
 stamp_keeps core fits number allowed =
     let f = found core number may.may_stamp allowed in
-    let s = f.session in
-    let stops = goes_uncommitted core fits (number - 1) f.session f.seat f.session_there f.seat_there
-    (and_parts (may.is_committed f.seat) _ f.passes).0 in
-    seat_step core number f.seat (λ seat. record seat { versions = does.without_oldest seat.versions }) f.seat_is
-    (less_keeps core fits (number - 1) f.session f.seat
-    (record f.seat { versions = does.without_oldest f.seat.versions }) f.session_there f.seat_there
-    (record {
-      live = refl;
-      found = refl;
-      made = λ table row has. has;
-      versions =
-          λ table row has. take_has (length f.seat.versions - 1) f.seat.versions table row has;
-    })
-    (λ table row has. absurd (stops (keeps_goes table row s.transaction s.asked s.writes s.last has))))
+    versions_step core fits number f does.without_oldest
+    (λ table row has. take_has (length f.seat.versions - 1) f.seat.versions table row has)
+    (committed_stops core fits number f (and_parts (may.is_committed f.seat) _ f.passes).0)
 
 pub finish_keeps : (core : Core) → Fits core → (number : ℕ) → may.at_session core number may.may_finish ≡ true
     → Fits (moved core (event.Finish number))
 finish_keeps core fits number allowed =
     let f = found core number may.may_finish allowed in
-    let stops = goes_uncommitted core fits (number - 1) f.session f.seat f.session_there f.seat_there
-    (and_parts (may.is_committed f.seat) _ f.passes).0 in
-    seat_step core number f.seat (λ seat. record seat { live = None }) f.seat_is
-    (gone_keeps core fits (number - 1) f.session f.seat (record f.seat { live = None }) f.session_there f.seat_there
-    refl refl stops)
+    gone_step core fits number f (committed_stops core fits number f (and_parts (may.is_committed f.seat) _ f.passes).0)
 
 pub leave_keeps : (core : Core) → Fits core → (number : ℕ) → may.at_session core number may.may_leave ≡ true
     → Fits (moved core (event.Leave number))
 leave_keeps core fits number allowed =
     let f = found core number may.may_leave allowed in
-    let off =
-    (and_parts (is_some f.seat.live && not (may.is_committed f.seat)) (not (may.is_active f.session))
-    (and_parts (may.may_go_back f.session f.seat) _ f.passes).0).1 in
-    seat_step core number f.seat (λ seat. record seat { live = None }) f.seat_is
-    (gone_keeps core fits (number - 1) f.session f.seat (record f.seat { live = None }) f.session_there f.seat_there
-    refl refl
-    (λ goes. false≢true (sym (not-true (may.is_active f.session) off) ∙ goes)))
+    gone_step core fits number f (gone_back f.session f.seat _ f.passes)
 
 pub undo_keeps : (core : Core) → Fits core → (number : ℕ) → may.at_session core number may.may_undo ≡ true
     → Fits (moved core (event.Undo number))
 undo_keeps core fits number allowed =
     let f = found core number may.may_undo allowed in
-    let s = f.session in
-    let off =
-    (and_parts (is_some f.seat.live && not (may.is_committed f.seat)) (not (may.is_active f.session))
-    (and_parts (may.may_go_back f.session f.seat) _ f.passes).0).1 in
-    seat_step core number f.seat (λ seat. record seat { versions = does.without_newest seat.versions }) f.seat_is
-    (less_keeps core fits (number - 1) f.session f.seat
-    (record f.seat { versions = does.without_newest f.seat.versions }) f.session_there f.seat_there
-    (record {
-      live = refl;
-      found = refl;
-      made = λ table row has. has;
-      versions =
-          λ table row has. tail_has f.seat.versions table row has;
-    })
-    (λ table row has. absurd
-    (false≢true (sym (not-true (may.is_active f.session) off)
-    ∙ keeps_goes table row s.transaction s.asked s.writes s.last has))))
+    versions_step core fits number f does.without_newest (λ table row has. tail_has f.seat.versions table row has)
+    (gone_back f.session f.seat _ f.passes)
 
 none_appended : (own table row : ℕ) (rows : List (List Value))
     → ((does.appended_part own rows).table == table && part_has (does.appended_part own rows) row) ≡ true → ⊥
@@ -249,10 +248,7 @@ append_made seat own rows table row has = ⊎_elim
 pub placing_keeps : (core : Core) → Fits core
     → (number table : ℕ) (rows : List (List Value)) (test : Session → Seat → Bool)
     → may.at_session core number test ≡ true
-    → Fits (core_with core core.entries core.now (elim (seat_at core.seats number) as (λ x. List Seat) [
-      | None ↦ core.seats
-      | Some seat ↦ slice_set core.seats (number - 1) (does.seat_after_placing table rows seat)
-    ]))
+    → Fits (core_with core core.entries core.now (with_change core number (does.seat_after_placing table rows)))
 placing_keeps core fits number table rows test allowed =
     let f = found core number test allowed in
     let sits = fits.sit (number - 1) f.session f.seat f.session_there f.seat_there in

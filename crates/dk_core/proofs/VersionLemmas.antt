@@ -41,17 +41,16 @@ use Rattle.dk_core.specs.declared.event.Event.TheVariants as event
 use Rattle.dk_core.specs.declared.seat.Seat.{Seat}
 use Rattle.dk_core.specs.declared.seat.Snapshot.{Snapshot}
 use Rattle.dk_core.specs.Allows as may
-use Rattle.dk_core.specs.Changes.{is_one_kind, is_change_of, is_fresh_part}
+use Rattle.dk_core.specs.Changes.{is_one_kind, is_fresh_part}
 use Rattle.dk_core.specs.Commits.{is_commit_kind, commits_now, is_placing, are_next_rows, may_append, may_adopt, may_point}
 use Rattle.dk_core.specs.Core.{Core, no_seat, first_core, seat_at, all_but, unstamped, next_snapshot, next_receipt}
 use Rattle.dk_core.specs.Entries.{entry_of, with_entry, entries_after, state_with}
 use Rattle.dk_core.specs.Findings.{conflict, is_full, spent_numbers}
 use Rattle.dk_core.specs.Laws.{core_after, all_allowed, VersionsOverEveryList}
-use Rattle.dk_core.specs.Layout.{groups_of}
 use Rattle.dk_core.specs.Step as does
 use Rattle.dk_core.specs.Versions.{HasSnapshot, Numbered, Placed}
-use Rattle.dk_core.proofs.Invariant.{Has, Fits, core_with, moved}
-use Rattle.dk_core.proofs.ChangeLemmas.{some_live, part_below, part_goes}
+use Rattle.dk_core.proofs.Invariant.{with_change, Has, Fits, core_with, moved}
+use Rattle.dk_core.proofs.ChangeLemmas.{by_change, some_live, part_below, part_goes}
 use Rattle.dk_core.proofs.HolderLemmas.{into_but, has_parts}
 use Rattle.dk_core.proofs.LegalLemmas.{Sound, step_keeps, first_sound}
 use Rattle.dk_core.proofs.PointLemmas.{Points, points}
@@ -170,10 +169,7 @@ seat_versioned : (core : Core) → Versioned core → (entries : List Entry) (no
     (change : Seat → Seat)
     → seat_at core.seats number ≡ Some seat → Grown now.commits core.now.commits → core.now.begun ≤ now.begun
     → NewSeat core now (number - 1) (change seat)
-    → Versioned (core_with core entries now (elim (seat_at core.seats number) as (λ x. List Seat) [
-      | None ↦ core.seats
-      | Some seat ↦ slice_set core.seats (number - 1) (change seat)
-    ]))
+    → Versioned (core_with core entries now (with_change core number change))
 seat_versioned core versioned entries now number seat change is grown begun new =
     subst (λ found. Versioned (core_with core entries now (elim found as (λ x. List Seat) [
       | None ↦ core.seats
@@ -392,23 +388,20 @@ no_more_rows table updates deletes (row ∷ rows) made none p = absurd (false≢
 
 -- the seat behind a Change
 change_seat : (core : Core) → Fits core → Versioned core → (number : ℕ) (at : VectorId) (part : TableNet)
-    → (transaction : Transaction) (asked : Option Asked) (touched : Option WriteSet) (past : Option LastTransaction)
-    (seat : Seat)
-    → slice_get core.now.sessions (number - 1) ≡ Some (session_of transaction asked touched past)
-    → slice_get core.seats (number - 1) ≡ Some seat
-    → may.may_change core at part (session_of transaction asked touched past) seat ≡ true
-    → NewSeat core core.now (number - 1) (does.seat_after_change core number part seat)
-change_seat core fits versioned number at part state.Outside asked touched past seat here there passes =
-    absurd (false≢true passes)
-change_seat core fits versioned number at part state.Aborted asked touched past seat here there passes =
-    absurd (false≢true passes)
-change_seat core fits versioned number at part (state.Open active) None touched past seat here there passes =
-    absurd (false≢true passes)
-change_seat core fits versioned number at part (state.Open active) (Some asked) touched past seat here there passes =
+    (f : Found core number (may.may_change core at part))
+    → NewSeat core core.now (number - 1) (does.seat_after_change core number part f.seat)
+change_seat core fits versioned number at part f =
+    let seat = f.seat in
+    let there = f.seat_there in
+    let touched = f.session.writes in
+    let past = f.session.last in
+    by_change core at part touched past seat
+    (λ transaction asked. slice_get core.now.sessions (number - 1) ≡ Some (session_of transaction asked touched past)
+    → NewSeat core core.now (number - 1) (does.seat_after_change core number part seat))
+    (λ active asked is here.
     let n = committed_count core.opened core.now.commits active part.table in
     let meaning = meaning_in core.opened core.now.commits active asked in
     let session = session_of (state.Open active) (Some asked) touched past in
-    let is = (and_parts _ (is_change_of (groups_of core.layout part.table) n seat.made meaning at part) passes).1 in
     let h = and_parts _ (is_fresh_part n seat.made meaning part) is in
     let goes = part_goes core active asked seat.made part n h.1 in
     let l = live_of (length core.now.commits) seat (state.Open active) (Some asked) touched past
@@ -432,7 +425,8 @@ change_seat core fits versioned number at part (state.Open active) (Some asked) 
     (versioned.placed.alone k (number - 1) other seat at_k there q
     (no_more_rows part.table part.updates part.deletes part.rows seat.made none p))))
     (λ refusal. less_seat core versioned core.now (number - 1) seat (record seat { found = Some refusal }) there
-    (omega arith) (omega arith) refl (λ e. e) (λ t r has. has) (λ p. p))
+    (omega arith) (omega arith) refl (λ e. e) (λ t r has. has) (λ p. p)))
+    f.session.transaction f.session.asked f.passes f.session_there
 
 -- a call that may commit is no ROLLBACK
 commit_no_rollback : (fresh : Bool) (found : Option Kind)
@@ -453,27 +447,32 @@ next_active core active asked touched past seat table rows next =
     (and_parts (commits_now active asked) (is_none seat.found)
     (and_parts (commits_now active asked && is_none seat.found) _ next).0).0
 
-pub append_active : (core : Core) (table group first : ℕ) (rows : List (List Value)) (transaction : Transaction)
-    (asked : Option Asked) (touched : Option WriteSet) (past : Option LastTransaction) (seat : Seat)
-    → may_append core table group first rows (session_of transaction asked touched past) seat ≡ true
+-- who may put own rows into a group is active
+rows_active : (core : Core) (table : ℕ) (rows : List (List Value)) (asked : Option Asked) (touched : Option WriteSet)
+    (past : Option LastTransaction) (seat : Seat) (also : OpenTransaction → Bool) (transaction : Transaction)
+    → elim transaction as (λ x. Bool) [
+      | state.Outside ↦ false
+      | state.Aborted ↦ false
+      | state.Open active ↦ are_next_rows core active table rows (session_of transaction asked touched past) seat
+          && also active
+    ] ≡ true
     → may.is_active (session_of transaction asked touched past) ≡ true
-append_active core table group first rows state.Outside asked touched past seat passes = absurd (false≢true passes)
-append_active core table group first rows state.Aborted asked touched past seat passes = absurd (false≢true passes)
-append_active core table group first rows (state.Open active) asked touched past seat passes =
+rows_active core table rows asked touched past seat also state.Outside passes = absurd (false≢true passes)
+rows_active core table rows asked touched past seat also state.Aborted passes = absurd (false≢true passes)
+rows_active core table rows asked touched past seat also (state.Open active) passes =
     next_active core active asked touched past seat table rows
-    (and_parts (are_next_rows core active table rows (session_of (state.Open active) asked touched past) seat) _
-    passes).0
+    (and_parts (are_next_rows core active table rows (session_of (state.Open active) asked touched past) seat)
+    (also active) passes).0
 
-pub adopt_active : (core : Core) (table group first : ℕ) (rows : List (List Value)) (transaction : Transaction)
-    (asked : Option Asked) (touched : Option WriteSet) (past : Option LastTransaction) (seat : Seat)
-    → may_adopt core table group first rows (session_of transaction asked touched past) seat ≡ true
-    → may.is_active (session_of transaction asked touched past) ≡ true
-adopt_active core table group first rows state.Outside asked touched past seat passes = absurd (false≢true passes)
-adopt_active core table group first rows state.Aborted asked touched past seat passes = absurd (false≢true passes)
-adopt_active core table group first rows (state.Open active) asked touched past seat passes =
-    next_active core active asked touched past seat table rows
-    (and_parts (are_next_rows core active table rows (session_of (state.Open active) asked touched past) seat) _
-    passes).0
+pub append_active : (core : Core) (table group first : ℕ) (rows : List (List Value)) (session : Session) (seat : Seat)
+    → may_append core table group first rows session seat ≡ true → may.is_active session ≡ true
+append_active core table group first rows session seat passes =
+    rows_active core table rows session.asked session.writes session.last seat _ session.transaction passes
+
+pub adopt_active : (core : Core) (table group first : ℕ) (rows : List (List Value)) (session : Session) (seat : Seat)
+    → may_adopt core table group first rows session seat ≡ true → may.is_active session ≡ true
+adopt_active core table group first rows session seat passes =
+    rows_active core table rows session.asked session.writes session.last seat _ session.transaction passes
 
 all_at : {T : Type 0} → (test : T → Bool) (xs : List T) (i : ℕ) (x : T) → list_all test xs ≡ true
     → slice_get xs i ≡ Some x → test x ≡ true
@@ -501,16 +500,24 @@ placing_seat core fits versioned number table rows session seat above here there
     (sym q ∙ not-true (is_placing other)
     (all_at (λ seat. not (is_placing seat)) (all_but number core.seats) b.0 other nobody b.1)))
 
+-- the core behind an Append or an Adopt
+placed_versioned : (core : Core) → Fits core → Versioned core → (number table : ℕ) (rows : List (List Value))
+    → {test : Session → Seat → Bool} → (f : Found core number test) → may.is_active f.session ≡ true
+    → may.nobody_places core number ≡ true
+    → Versioned (core_with core core.entries core.now (with_change core number (does.seat_after_placing table rows)))
+placed_versioned core fits versioned number table rows f active nobody =
+    seat_versioned core versioned core.entries core.now number f.seat (does.seat_after_placing table rows) f.seat_is
+    (grown_with core None) (begun_with core None)
+    (placing_seat core fits versioned number table rows f.session f.seat f.above f.session_there f.seat_there active
+    nobody)
+
 -- the core behind an event that changes the seat of one session so
 new_versioned : (core : Core) → Versioned core → (event : Event) (number : ℕ) (seat : Seat) (change : Seat → Seat)
     → seat_at core.seats number ≡ Some seat
     → NewSeat core (state_with core (entry_of core event)) (number - 1) (change seat)
     → Versioned
     (core_with core (entries_after core event) (state_with core (entry_of core event))
-    (elim (seat_at core.seats number) as (λ x. List Seat) [
-      | None ↦ core.seats
-      | Some seat ↦ slice_set core.seats (number - 1) (change seat)
-    ]))
+    (with_change core number change))
 new_versioned core versioned event number seat change is new =
     seat_versioned core versioned (entries_after core event) (state_with core (entry_of core event)) number seat
     change is
@@ -524,10 +531,7 @@ less_versioned : (core : Core) → Versioned core → (event : Event) (number : 
     → (is_placing (change seat) ≡ true → is_placing seat ≡ true)
     → Versioned
     (core_with core (entries_after core event) (state_with core (entry_of core event))
-    (elim (seat_at core.seats number) as (λ x. List Seat) [
-      | None ↦ core.seats
-      | Some seat ↦ slice_set core.seats (number - 1) (change seat)
-    ]))
+    (with_change core number change))
 less_versioned core versioned event number seat change is there kept made has places =
     let now = state_with core (entry_of core event) in
     new_versioned core versioned event number seat change is
@@ -542,17 +546,17 @@ abbrev pub begin_entry : Core → ℕ → Bool → Option Entry
 begin_entry core number full =
     if full then None else Some (history.Begun number core.now.begun (length core.now.commits))
 
+abbrev pub begin_change : Core → Bool → Seat → Seat
+begin_change core full seat =
+    if full then record seat { found = Some (refusal.Exhausted (spent_numbers core)) }
+    else record no_seat { live = Some (next_snapshot core.now) }
+
 begin_versioned : (core : Core) → Fits core → Versioned core
     → (number : ℕ) (f : Found core number may.may_begin) (full : Bool) → is_full core ≡ full
     → Versioned
     (core_with core (with_entry core.entries (begin_entry core number full))
     (state_with core (begin_entry core number full))
-    (elim (seat_at core.seats number) as (λ x. List Seat) [
-      | None ↦ core.seats
-      | Some seat ↦ slice_set core.seats (number - 1)
-          (if full then record seat { found = Some (refusal.Exhausted (spent_numbers core)) } else record no_seat
-          { live = Some (next_snapshot core.now) })
-    ]))
+    (with_change core number (begin_change core full)))
 begin_versioned core fits versioned number f true is =
     seat_versioned core versioned core.entries core.now number f.seat
     (λ seat. record seat { found = Some (refusal.Exhausted (spent_numbers core)) }) f.seat_is
@@ -583,10 +587,7 @@ commit_versioned : (core : Core) → Versioned core → (event : Event) (number 
     → Points core number reply seat
     → Versioned
     (core_with core (entries_after core event) (state_with core (entry_of core event))
-    (elim (seat_at core.seats number) as (λ x. List Seat) [
-      | None ↦ core.seats
-      | Some seat ↦ slice_set core.seats (number - 1) (does.seat_after_commit core seat)
-    ]))
+    (with_change core number (does.seat_after_commit core)))
 commit_versioned core versioned event number reply seat entry is there p =
     let now = state_with core (entry_of core event) in
     let grown : length now.commits ≡ length core.now.commits + 1 = ap (λ e. length (state_with core e).commits) entry
@@ -612,27 +613,18 @@ event_versioned core fits versioned (event.Begin number) allowed =
     begin_versioned core fits versioned number (found core number may.may_begin allowed) (is_full core) refl
 event_versioned core fits versioned (event.Change number at part) allowed =
     let f = found core number (may.may_change core at part) allowed in
-    let s = f.session in
     new_versioned core versioned (event.Change number at part) number f.seat (does.seat_after_change core number part)
-    f.seat_is
-    (change_seat core fits versioned number at part s.transaction s.asked s.writes s.last f.seat f.session_there
-    f.seat_there f.passes)
+    f.seat_is (change_seat core fits versioned number at part f)
 event_versioned core fits versioned (event.Append number table group first rows) allowed =
     let h = and_parts (may.at_session core number (may_append core table group first rows)) _ allowed in
     let f = found core number (may_append core table group first rows) h.0 in
-    let s = f.session in
-    new_versioned core versioned (event.Append number table group first rows) number f.seat
-    (does.seat_after_placing table rows) f.seat_is
-    (placing_seat core fits versioned number table rows s f.seat f.above f.session_there f.seat_there
-    (append_active core table group first rows s.transaction s.asked s.writes s.last f.seat f.passes) h.1)
+    placed_versioned core fits versioned number table rows f
+    (append_active core table group first rows f.session f.seat f.passes) h.1
 event_versioned core fits versioned (event.Adopt number table group first rows) allowed =
     let h = and_parts (may.at_session core number (may_adopt core table group first rows)) _ allowed in
     let f = found core number (may_adopt core table group first rows) h.0 in
-    let s = f.session in
-    new_versioned core versioned (event.Adopt number table group first rows) number f.seat
-    (does.seat_after_placing table rows) f.seat_is
-    (placing_seat core fits versioned number table rows s f.seat f.above f.session_there f.seat_there
-    (adopt_active core table group first rows s.transaction s.asked s.writes s.last f.seat f.passes) h.1)
+    placed_versioned core fits versioned number table rows f
+    (adopt_active core table group first rows f.session f.seat f.passes) h.1
 event_versioned core fits versioned (event.Point number (done.Create name schema) moment) allowed =
     let test = may_point core (done.Create name schema) moment in
     let f = found core number test (and_parts (may.at_session core number test) _ allowed).0 in

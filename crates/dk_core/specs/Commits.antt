@@ -32,10 +32,6 @@ abbrev pub is_commit_kind : Kind → Bool
 is_commit_kind kind.Commit = true
 is_commit_kind other = false
 
-abbrev pub is_create : Kind → Bool
-is_create kind.Create = true
-is_create other = false
-
 -- the call in flight may commit: it is COMMIT, or a statement with a transaction of its own
 abbrev pub commits_now : OpenTransaction → Option Asked → Bool
 commits_now active asked = asks_for is_commit_kind asked || is_own active asked
@@ -135,6 +131,10 @@ abbrev pub is_creation_of : List ℕ → List Column → Meaning → Bool
 is_creation_of name schema (meant.Create own_name own_schema) = bytes_eq name own_name
     && same_schema schema own_schema
 is_creation_of name schema other = false
+
+abbrev pub is_create : Kind → Bool
+is_create kind.Create = true
+is_create other = false
 
 -- CREATE TABLE in a transaction of its own
 abbrev pub creates_now : OpenTransaction → Option Asked → Bool

@@ -9,9 +9,8 @@ use Rattle.dk_si.specs.declared.database.Table.{Table}
 use Rattle.dk_si.specs.declared.history.Entry.{Entry}
 use Rattle.dk_si.specs.declared.limits.TheConstants.{SESSIONS}
 use Rattle.dk_si.specs.declared.machine.Machine.{Machine}
-use Rattle.dk_si.specs.declared.standing.Standing.{Standing}
 use Rattle.dk_si.specs.Machine.{first_state}
-use Rattle.dk_si.specs.Standing.{first_standing}
+use Rattle.dk_si.specs.Standing.{FullStanding, first_standing}
 use Rattle.dk_core.specs.declared.event.Done.{Done}
 use Rattle.dk_core.specs.declared.event.Done.TheVariants as done
 use Rattle.dk_core.specs.declared.seat.Seat.{Seat}
@@ -26,7 +25,7 @@ pub record Core : Type 0 where
   pub sessions : ℕ
   -- the machine's entries so far, what stands of stops and iterations behind them, and the machine's state
   pub entries : List Entry
-  pub standing : Standing
+  pub standing : FullStanding
   pub now : Machine
   -- what each session has beside what the machine knows of it
   pub seats : List Seat

@@ -3,9 +3,8 @@ use Rattle.std.specs.Prelude.{true, Bool, List, [], ◌∷◌, ◌++◌, length,
 use Rattle.dk_si.specs.declared.history.Entry.{Entry}
 use Rattle.dk_si.specs.declared.history.Entry.TheVariants as entry
 use Rattle.dk_si.specs.declared.machine.Machine.{Machine}
-use Rattle.dk_si.specs.declared.standing.Standing.{Standing}
 use Rattle.dk_si.specs.Machine.{next}
-use Rattle.dk_si.specs.Standing.{standing_and, stands_on}
+use Rattle.dk_si.specs.Standing.{FullStanding, standing_and, stands_on}
 use Rattle.dk_core.specs.declared.event.Event.{Event}
 use Rattle.dk_core.specs.declared.event.Event.TheVariants as event
 use Rattle.dk_core.specs.Core.{Core, point_reply}
@@ -31,7 +30,7 @@ abbrev pub state_with : Core → Option Entry → Machine
 state_with core None = core.now
 state_with core (Some entry) = next core.opened core.now entry
 
-abbrev pub standing_with : Core → Option Entry → Standing
+abbrev pub standing_with : Core → Option Entry → FullStanding
 standing_with core None = core.standing
 standing_with core (Some entry) = standing_and core.iteration core.standing entry
 

@@ -113,10 +113,7 @@ created opened commits active statement receipt form.Create e =
 created opened commits active statement receipt form.Begin e = absurd (false≢true (first_of active.fresh false e))
 created opened commits active statement receipt form.Commit e =
     absurd (commit_never commits active.net (told.Created receipt) refl refl e)
-created opened commits active statement receipt form.Rollback e = absurd (false≢true e)
-created opened commits active statement receipt form.Checkpoint e = absurd (false≢true e)
-created opened commits active statement receipt form.Select e = absurd (false≢true e)
-created opened commits active statement receipt form.Change e = absurd (false≢true e)
+created opened commits active statement receipt other e = absurd (false≢true e)
 
 -- a COMMIT is answered so where it commits
 pub committed : (opened : List Table) (commits : List Commit) (active : OpenTransaction) (statement : Statement)
@@ -132,10 +129,7 @@ committed opened commits active statement receipt form.Commit e = next_number ac
         (⊎_elim (eqb-true receipt.number (length commits + 1)) (λ h. absurd (false≢true h)) (or_cases _ _ e), refl)
 committed opened commits active statement receipt form.Create e = absurd (false≢true (first_of active.fresh false e))
 committed opened commits active statement receipt form.Begin e = absurd (false≢true (first_of active.fresh false e))
-committed opened commits active statement receipt form.Rollback e = absurd (false≢true e)
-committed opened commits active statement receipt form.Checkpoint e = absurd (false≢true e)
-committed opened commits active statement receipt form.Select e = absurd (false≢true e)
-committed opened commits active statement receipt form.Change e = absurd (false≢true e)
+committed opened commits active statement receipt other e = absurd (false≢true e)
 
 -- a change has the next receipt where it commits
 pub changed : (opened : List Table) (commits : List Commit) (active : OpenTransaction) (statement : Statement)

@@ -2,7 +2,7 @@
 ghost use Rattle.std.specs.Prelude.{◌≡◌, ℕ, ◌++◌, ◌∷◌, [], map, nat_lt, not, ◌==◌, IfOk};
 ghost use Rattle.std.specs.List.{filter, list_any};
 ghost use Rattle.dk_si.specs.Nets.{put_by, put_all, with_waiting, has_id, own_places, own_updates, merged_rows};
-ghost use Rattle.dk_si.specs.Nets.{merged_updates};
+ghost use Rattle.dk_si.specs.Nets.{merged_deletes, merged_updates};
 ghost use Rattle.dk_si.specs.Nets.{merged_part, part_of, without, with_part, merged_net, row_count, part_has};
 ghost use Rattle.dk_si.specs.Nets.{net_has};
 
@@ -244,17 +244,23 @@ fn merged_updates(alloc: Global, merge: Merge<'_>) -> Result<Updates, OutOfMemor
     Ok(kept)
 }
 
+fn merged_deletes(alloc: Global, merge: Merge<'_>) -> Result<List<u64>, OutOfMemory>
+    ensures { IfOk result (λ deletes. deletes ≡ merged_deletes merge.entry.count merge.entry.part.now
+        merge.entry.change.now) }
+{
+    let newer = committed(alloc, merge.count, merge.change.deletes.as_slice())?;
+    let deletes = put_all(alloc, merge.part.deletes.copy()?.into_vec(), newer)?;
+    Ok(List::from_vec(deletes))
+}
+
 fn merged_part(alloc: Global, merge: Merge<'_>) -> Result<TableNet, OutOfMemory>
     ensures { IfOk result (λ part. part ≡ merged_part merge.entry.count merge.entry.part.now
         merge.entry.change.now) }
 {
-    let change = merge.change;
-    let newer = committed(alloc, merge.count, change.deletes.as_slice())?;
-    let deletes = put_all(alloc, merge.part.deletes.copy()?.into_vec(), newer)?;
     Ok(TableNet {
-        table: change.table,
+        table: merge.change.table,
         updates: merged_updates(alloc, merge)?,
-        deletes: List::from_vec(deletes),
+        deletes: merged_deletes(alloc, merge)?,
         rows: merged_rows(alloc, merge)?,
     })
 }

@@ -1,3 +1,4 @@
+pub mod AmongLemmas
 pub mod ExchangeLemmas
 pub mod FirstCommitterLemmas
 pub mod ForwardLemmas
@@ -14,6 +15,11 @@ pub mod PresentLemmas
 pub mod RisingLemmas
 pub mod TestLemmas
 pub mod StandingStateLemmas
+pub mod SessionStepLemmas
 pub mod StandingLemmas
+pub mod ShortIterationLemmas
+pub mod ShortLemmas
+pub mod ShortNeedLemmas
+pub mod ShortSizeLemmas
 pub mod TransitionLemmas
 pub mod WriteSetLemmas

@@ -77,7 +77,7 @@ kept_here test x xs true keeps has = or_left (test x) _ has
 kept_here test x xs false keeps has = absurd (false≢true keeps)
 
 -- what passes a test that the filter lets through stays
-filter_has : {T : Type 0} → (test keep : T → Bool) (xs : List T) → ((x : T) → test x ≡ true → keep x ≡ true)
+pub filter_has : {T : Type 0} → (test keep : T → Bool) (xs : List T) → ((x : T) → test x ≡ true → keep x ≡ true)
     → list_any test xs ≡ true → list_any test (filter keep xs) ≡ true
 filter_has test keep [] lets has = has
 filter_has test keep (x ∷ xs) lets has = ⊎_elim
@@ -181,16 +181,17 @@ with_here part net table row true full has =
     put_there (λ other. other.table == table && part_has other row) (λ other. other.table) part net has
 with_here part net table row false full has = absurd (false≢true full)
 
-none_above : (parts : List TableNet) (low table row : ℕ) → all_above low parts ≡ true → table ≤ low
-    → net_has parts table row ≡ true → ⊥
-none_above [] low table row above le has = false≢true has
-none_above (part ∷ parts) low table row above le has =
+-- no part above a table is of it
+pub none_above : (also : TableNet → Bool) (parts : List TableNet) (low table : ℕ) → all_above low parts ≡ true
+    → table ≤ low → list_any (λ part. part.table == table && also part) parts ≡ true → ⊥
+none_above also [] low table above le has = false≢true has
+none_above also (part ∷ parts) low table above le has =
     let h = and_parts (nat_lt low part.table) (all_above low parts) above in
     ⊎_elim
-    (λ p. let same = eqb-true part.table table (and_parts (part.table == table) (part_has part row) p).0 in
+    (λ p. let same = eqb-true part.table table (and_parts (part.table == table) (also part) p).0 in
     let less = ltb-true low part.table h.0 in omega (arith, same, less, le))
-    (λ p. none_above parts low table row h.1 le p)
-    (or_cases (part.table == table && part_has part row) (net_has parts table row) has)
+    (λ p. none_above also parts low table h.1 le p)
+    (or_cases (part.table == table && also part) (list_any (λ part. part.table == table && also part) parts) has)
 
 same_le : (table other : ℕ) → (other == table) ≡ true → table ≤ other
 same_le table other same = let e = eqb-true other table same in omega (arith, e)
@@ -252,7 +253,7 @@ in_part (part ∷ parts) table row up has =
     let h = and_parts (all_above part.table parts) (ascends parts) up in
     in_part_at part parts table row (part.table == table) refl
     (or_cases (part.table == table && part_has part row) (net_has parts table row) has)
-    (λ same later. none_above parts part.table table row h.0 (same_le table part.table same) later)
+    (λ same later. none_above (λ part. part_has part row) parts part.table table h.0 (same_le table part.table same) later)
     (λ later. in_part parts table row h.1 later)
 
 -- what a net has of other tables stays

@@ -29,6 +29,12 @@ set_place (y ∷ ys) (suc n) new zero x at = inr (λ same. absurd (omega arith),
 set_place (y ∷ ys) (suc n) new (suc k) x at =
     ⊎_elim (λ h. inl (ap suc h.0, h.1)) (λ h. inr (λ same. h.0 (omega arith), h.1)) (set_place ys n new k x at)
 
+-- and it is as long
+pub set_length : {T : Type 0} → (xs : List T) (k : ℕ) (x : T) → length (slice_set xs k x) ≡ length xs
+set_length [] k x = refl
+set_length (y ∷ xs) zero x = refl
+set_length (y ∷ xs) (suc k) x = ap suc (set_length xs k x)
+
 -- where none of the first n passes a test, the item at a place below n fails it
 none_before : {T : Type 0} → (test : T → Bool) → (xs : List T) → (n k : ℕ) → (x : T) → list_any test (take n xs)
     ≡ false → k < n

@@ -17,12 +17,11 @@ use Rattle.dk_si.specs.declared.standing.Cause.{Cause}
 use Rattle.dk_si.specs.declared.standing.Cause.TheVariants.{Iteration}
 use Rattle.dk_si.specs.declared.standing.Need.{Need}
 use Rattle.dk_si.specs.declared.standing.Written.{Written}
-use Rattle.dk_si.specs.declared.standing.Standing.{Standing}
 use Rattle.dk_si.specs.Machine.{asks_for}
 use Rattle.dk_si.specs.ReplyTests.{is_refused, has_no_iteration, is_commit, is_stopped_refusal, is_stop, iteration_of}
 use Rattle.dk_si.specs.Exchanges.{is_checkpoint, exchanges, exchanges_and}
 use Rattle.dk_si.specs.IsLegal.{keeps_stop, may_have_stopped, is_reached, are_in_order, follows_at, spent_at, stands_in_order, stops_well, iterates_well}
-use Rattle.dk_si.specs.Standing.{first_standing, waits, settles, owes_iteration, owes, stop_before, is_of, may_pay, are_payable, comes_after, is_only, iterates, may_end_all, written_at, standing_and, stands_on, standing_from, standing_after, StandingAndOne, StandsWell}
+use Rattle.dk_si.specs.Standing.{FullStanding, first_standing, waits, settles, owes_iteration, owes, stop_before, is_of, may_pay, are_payable, comes_after, is_only, iterates, may_end_all, written_at, standing_and, stands_on, standing_from, standing_after, StandingAndOne, StandsWell}
 use Rattle.dk_si.proofs.ForwardLemmas.{and_assoc}
 use Rattle.dk_si.proofs.ExchangeLemmas.{exchange_of, exchanges_and_one, is_before}
 use Rattle.dk_si.proofs.FrontLemmas.{all_by, all_with, answered, well_before_reply, well_before_call}
@@ -43,7 +42,7 @@ explains_each : (place : ℕ) (cause : Cause) (session at : ℕ) (checkpoint : B
 explains_each place cause session at checkpoint None = refl
 explains_each place cause session at checkpoint (Some replied) = or_false (nat_lt at place && settles cause checkpoint replied.reply)
 
-explained_is : (opened : ℕ) (standing : Standing) (all : List Exchange) → Stands opened standing all → (place : ℕ) (cause : Cause)
+explained_is : (opened : ℕ) (standing : FullStanding) (all : List Exchange) → Stands opened standing all → (place : ℕ) (cause : Cause)
     → list_any (explains place cause) all
     ≡ (list_any (told_in (paid_at place cause)) all || list_any (may_pay (need_of cause place)) standing.flights)
 explained_is opened standing all stands place cause =
@@ -51,7 +50,7 @@ explained_is opened standing all stands place cause =
     ∙ (any_or (told_in (paid_at place cause)) (in_flight (may_pay (need_of cause place))) all
     ∙ ap (λ b. list_any (told_in (paid_at place cause)) all || b) (sym (stands.flights (may_pay (need_of cause place)))))
 
-owed_is : (opened : ℕ) (standing : Standing) (all : List Exchange) → Stands opened standing all
+owed_is : (opened : ℕ) (standing : FullStanding) (all : List Exchange) → Stands opened standing all
     → list_all (asked_in (owed_at opened all)) all ≡ are_payable standing
 owed_is opened standing all stands =
     let payable : Need → Bool = λ need. list_any (may_pay need) standing.flights in
@@ -136,7 +135,7 @@ whole_is opened all =
     ∙ all_asked_and (above_at opened) (owed_at opened all) all)))
 
 -- a condition on replies, behind one more
-asked_more : (opened : ℕ) (standing : Standing) (all : List Exchange) → Stands opened standing all
+asked_more : (opened : ℕ) (standing : FullStanding) (all : List Exchange) → Stands opened standing all
     → (test : Flight → Replied → Bool) (session : ℕ) (reply : Reply)
     → list_all (asked_in test) (answered session standing.place reply all)
     ≡ (list_all (λ flight. not (is_of session flight) || test flight (reply_at standing.place reply)) standing.flights && list_all (asked_in test) all)
@@ -224,7 +223,7 @@ some_stop : (stop : Option ℕ) (n : ℕ) → ((first : ℕ) → stop ≡ Some f
 some_stop None n within = refl
 some_stop (Some first) n within = lt-ltb first n (within first refl)
 
-stops_told : (opened : ℕ) (standing : Standing) (all : List Exchange) → Stands opened standing all → (x : ℕ) (commits writes : Bool)
+stops_told : (opened : ℕ) (standing : FullStanding) (all : List Exchange) → Stands opened standing all → (x : ℕ) (commits writes : Bool)
     → list_all (asked_in (λ flight replied. not (is_stop replied.reply) || not ((nat_lt replied.place standing.place && commits) || (nat_lt replied.place x && writes)))) all
     ≡ not ((is_some standing.stop && commits) || (stop_before standing.stop x && writes))
 stops_told opened standing all stands x commits writes =
@@ -237,7 +236,7 @@ stops_told opened standing all stands x commits writes =
     (any_and commits (told_in (stops_at n)) all ∙ ap (λ b. b && commits) (sym (stands.stop n) ∙ some_stop standing.stop n stands.within))
     ∙ ap (λ b. (is_some standing.stop && commits) || b) (any_and writes (told_in (stops_at x)) all ∙ ap (λ b. b && writes) (sym (stands.stop x))))))
 
-abbrev ends_stop : Standing → Reply → Flight → Bool
+abbrev ends_stop : FullStanding → Reply → Flight → Bool
 ends_stop standing reply flight =
     not ((is_some standing.stop && is_commit reply) || (stop_before standing.stop flight.place && is_some (iteration_of reply)))
 
@@ -245,7 +244,7 @@ all_on : {T : Type 0} → (P : T → Bool) → (xs : List T) → ((x : T) → P 
 all_on P [] on = refl
 all_on P (x ∷ xs) on = and_from _ _ (on x) (all_on P xs on)
 
-pairs_more : (opened : ℕ) (standing : Standing) (all : List Exchange) → Stands opened standing all → (session : ℕ) (reply : Reply)
+pairs_more : (opened : ℕ) (standing : FullStanding) (all : List Exchange) → Stands opened standing all → (session : ℕ) (reply : Reply)
     → list_all (asked_in (pair_at (answered session standing.place reply all))) (answered session standing.place reply all)
     ≡ (list_all (λ flight. not (is_of session flight) || ends_stop standing reply flight) standing.flights && list_all (asked_in (pair_at all)) all)
 pairs_more opened standing all stands session reply =
@@ -323,14 +322,14 @@ order_in all session at checkpoint (Some replied) =
 order_is : (all : List Exchange) → list_all (stands_in_order all) all ≡ list_all (asked_in (orders all)) all
 order_is all = all_same _ _ all (λ e. order_in all e.session e.place e.checkpoint e.replied)
 
-abbrev among : Standing → ℕ → Reply → Flight → Bool
+abbrev among : FullStanding → ℕ → Reply → Flight → Bool
 among standing session reply flight =
     list_all (λ other. not (is_of session other) || order_at flight (reply_at standing.place reply) other (reply_at standing.place reply)) standing.flights
 
 abbrev behind_all : List Exchange → ℕ → Reply → Flight → Bool
 behind_all all n reply flight = list_all (asked_in (λ other answer. order_at other answer flight (reply_at n reply))) all
 
-order_more : (opened : ℕ) (standing : Standing) (all : List Exchange) → Stands opened standing all → (session : ℕ) (reply : Reply)
+order_more : (opened : ℕ) (standing : FullStanding) (all : List Exchange) → Stands opened standing all → (session : ℕ) (reply : Reply)
     → list_all (stands_in_order (answered session standing.place reply all)) (answered session standing.place reply all)
     ≡ (list_all (λ flight. not (is_of session flight) || (among standing session reply flight && orders all flight (reply_at standing.place reply))) standing.flights
     && (list_all (λ flight. not (is_of session flight) || behind_all all standing.place reply flight) standing.flights && list_all (stands_in_order all) all))
@@ -363,7 +362,7 @@ early_flight : (n session at : ℕ) (checkpoint : Bool) (replied : Option Replie
 early_flight n session at checkpoint None h = (and_parts (nat_lt at n) true h).0
 early_flight n session at checkpoint (Some replied) h = refl
 
-early_flights : (opened : ℕ) (standing : Standing) (all : List Exchange) → Stands opened standing all
+early_flights : (opened : ℕ) (standing : FullStanding) (all : List Exchange) → Stands opened standing all
     → list_all (λ flight. nat_lt flight.place standing.place) standing.flights ≡ true
 early_flights opened standing all stands =
     flights_all opened standing all stands (λ flight. nat_lt flight.place standing.place)
@@ -377,7 +376,7 @@ not_written test session at checkpoint None = refl
 not_written test session at checkpoint (Some replied) =
     sym (all_not test (written_at replied.place (flight_with session at checkpoint) (if checkpoint then iteration_of replied.reply else None)))
 
-written_all : (opened : ℕ) (standing : Standing) (all : List Exchange) → Stands opened standing all → (test : Written → Bool)
+written_all : (opened : ℕ) (standing : FullStanding) (all : List Exchange) → Stands opened standing all → (test : Written → Bool)
     → list_all test standing.written ≡ list_all (asked_in (λ flight replied. list_all test (written_at replied.place flight (iteration_by flight replied.reply)))) all
 written_all opened standing all stands test =
     all_not test standing.written
@@ -386,7 +385,7 @@ written_all opened standing all stands test =
     ∙ all_same _ _ all (λ e. not_written test e.session e.place e.checkpoint e.replied)))
 
 -- the order with the iterations that were answered
-abbrev after_written : Standing → Flight → ℕ → Bool
+abbrev after_written : FullStanding → Flight → ℕ → Bool
 after_written standing flight iteration = list_all (comes_after flight iteration) standing.written
 
 after_found : (flight : Flight) (iteration place : ℕ) (other : Flight) (found : Option ℕ)
@@ -395,7 +394,7 @@ after_found flight iteration place other None = refl
 after_found flight iteration place other (Some a) =
     sym (and_on ((other.place == flight.place || not (a == iteration)) && (not (nat_lt place flight.place) || nat_lt a iteration)))
 
-after_is : (opened : ℕ) (standing : Standing) (all : List Exchange) → Stands opened standing all → (flight : Flight) (iteration : ℕ)
+after_is : (opened : ℕ) (standing : FullStanding) (all : List Exchange) → Stands opened standing all → (flight : Flight) (iteration : ℕ)
     → list_all (asked_in (λ other answer. ordered other.place answer.place (iteration_by other answer.reply) flight.place (Some iteration))) all ≡ after_written standing flight iteration
 after_is opened standing all stands flight iteration = sym
     (written_all opened standing all stands (comes_after flight iteration)
@@ -441,11 +440,11 @@ only_each session n at iteration to true true less =
     let before = ltb-true to n less in
     only_if (at == to) (iteration == iteration) (nat_lt n to) (nat_lt iteration iteration) (eq-eqb iteration iteration refl) (le-ltb n to (omega (arith, before)))
 
-abbrev in_order : Standing → ℕ → Flight → Option ℕ → Bool
+abbrev in_order : FullStanding → ℕ → Flight → Option ℕ → Bool
 in_order standing session flight None = true
 in_order standing session flight (Some iteration) = after_written standing flight iteration && list_all (is_only session flight) standing.flights
 
-abbrev order_parts : Standing → List Exchange → ℕ → Flight → Option ℕ → Bool → Bool
+abbrev order_parts : FullStanding → List Exchange → ℕ → Flight → Option ℕ → Bool → Bool
 order_parts standing all session flight found checkpoint =
     (list_all (λ other. not (is_of session other) || ordered flight.place standing.place (if checkpoint then found else None) other.place (if other.checkpoint then found else None)) standing.flights
     && list_all (asked_in (λ other answer. ordered flight.place standing.place (if checkpoint then found else None) other.place (iteration_by other answer.reply))) all)
@@ -456,7 +455,7 @@ asked_on : (test : Flight → Replied → Bool) (session at : ℕ) (checkpoint :
 asked_on test session at checkpoint None on = refl
 asked_on test session at checkpoint (Some replied) on = on (flight_with session at checkpoint) replied
 
-no_parts : (standing : Standing) (all : List Exchange) (session : ℕ) (flight : Flight) (found : Option ℕ)
+no_parts : (standing : FullStanding) (all : List Exchange) (session : ℕ) (flight : Flight) (found : Option ℕ)
     → ((list_all (λ other. not (is_of session other) || ordered flight.place standing.place None other.place (if other.checkpoint then found else None)) standing.flights
     && list_all (asked_in (λ other answer. ordered flight.place standing.place None other.place (iteration_by other answer.reply))) all)
     && list_all (asked_in (λ other answer. ordered other.place answer.place (iteration_by other answer.reply) flight.place None)) all) ≡ true
@@ -470,7 +469,7 @@ no_parts standing all session flight found =
     (λ e. asked_on (λ other answer. ordered other.place answer.place (iteration_by other answer.reply) flight.place None) e.session e.place e.checkpoint e.replied
     (λ other answer. ordered_none other.place answer.place flight.place (iteration_by other answer.reply))))
 
-parts_is : (opened : ℕ) (standing : Standing) (all : List Exchange) → Stands opened standing all → (session : ℕ) (flight : Flight) (found : Option ℕ) (checkpoint : Bool)
+parts_is : (opened : ℕ) (standing : FullStanding) (all : List Exchange) → Stands opened standing all → (session : ℕ) (flight : Flight) (found : Option ℕ) (checkpoint : Bool)
     → order_parts standing all session flight found checkpoint ≡ (not checkpoint || in_order standing session flight found)
 parts_is opened standing all stands session flight found false = no_parts standing all session flight found
 parts_is opened standing all stands session flight None true = no_parts standing all session flight None
@@ -489,22 +488,22 @@ parts_is opened standing all stands session flight (Some iteration) true =
     ∙ and_turn (list_all (is_only session flight) standing.flights) (after_written standing flight iteration))))
 
 -- what a reply asks of what stands
-ends_in : (opened : ℕ) (standing : Standing) (session : ℕ) (flight : Flight) (checkpoint : Bool) (found : Option ℕ)
+ends_in : (opened : ℕ) (standing : FullStanding) (session : ℕ) (flight : Flight) (checkpoint : Bool) (found : Option ℕ)
     → (not checkpoint || iterates opened standing session flight found) ≡ ((not checkpoint || above opened found) && (not checkpoint || in_order standing session flight found))
 ends_in opened standing session flight false found = refl
 ends_in opened standing session flight true None = refl
 ends_in opened standing session flight true (Some iteration) = refl
 
-abbrev each_call : ℕ → Standing → (Flight → Bool) → Bool
+abbrev each_call : ℕ → FullStanding → (Flight → Bool) → Bool
 each_call session standing test = list_all (λ flight. not (is_of session flight) || test flight) standing.flights
 
-each_and : (session : ℕ) (standing : Standing) (a b : Flight → Bool)
+each_and : (session : ℕ) (standing : FullStanding) (a b : Flight → Bool)
     → each_call session standing (λ flight. a flight && b flight) ≡ (each_call session standing a && each_call session standing b)
 each_and session standing a b =
     all_same _ _ standing.flights (λ flight. or_and (not (is_of session flight)) (a flight) (b flight))
     ∙ all_and (λ flight. not (is_of session flight) || a flight) (λ flight. not (is_of session flight) || b flight) standing.flights
 
-may_end_is : (opened : ℕ) (standing : Standing) (session : ℕ) (reply : Reply)
+may_end_is : (opened : ℕ) (standing : FullStanding) (session : ℕ) (reply : Reply)
     → may_end_all opened standing session reply
     ≡ (each_call session standing (ends_stop standing reply)
     && (each_call session standing (λ flight. not flight.checkpoint || above opened (iteration_of reply))
@@ -515,7 +514,7 @@ may_end_is opened standing session reply =
     (all_same _ _ standing.flights (λ flight. ap (λ b. not (is_of session flight) || b) (ends_in opened standing session flight flight.checkpoint (iteration_of reply)))
     ∙ each_and session standing (λ flight. not flight.checkpoint || above opened (iteration_of reply)) (λ flight. not flight.checkpoint || in_order standing session flight (iteration_of reply)))
 
-order_told : (opened : ℕ) (standing : Standing) (all : List Exchange) → Stands opened standing all → (session : ℕ) (reply : Reply)
+order_told : (opened : ℕ) (standing : FullStanding) (all : List Exchange) → Stands opened standing all → (session : ℕ) (reply : Reply)
     → list_all (stands_in_order (answered session standing.place reply all)) (answered session standing.place reply all)
     ≡ (each_call session standing (λ flight. not flight.checkpoint || in_order standing session flight (iteration_of reply)) && list_all (stands_in_order all) all)
 order_told opened standing all stands session reply =
@@ -534,7 +533,7 @@ same_bool true false one other = sym (one refl)
 same_bool false true one other = other refl
 same_bool false false one other = refl
 
-reply_parts : (opened : ℕ) (standing : Standing) (all : List Exchange) → Stands opened standing all → (session : ℕ) (reply : Reply)
+reply_parts : (opened : ℕ) (standing : FullStanding) (all : List Exchange) → Stands opened standing all → (session : ℕ) (reply : Reply)
     → whole opened (answered session standing.place reply all)
     ≡ (((each_call session standing (ends_stop standing reply) && list_all (asked_in (pair_at all)) all)
     && (each_call session standing (λ flight. not flight.checkpoint || in_order standing session flight (iteration_of reply)) && list_all (stands_in_order all) all))
@@ -578,7 +577,7 @@ grouped stop pair order ordered above aboves owed after e f =
     (and_from (stop && pair) (order && ordered) (and_from stop pair m.0 p.0) (and_from order ordered l.1 p.1))
     (and_from (above && aboves) after (and_from above aboves l.0 (and_parts aboves owed h.1).0) k.1)
 
-reply_well : (opened : ℕ) (standing : Standing) (all : List Exchange) → Stands opened standing all → (session : ℕ) (reply : Reply)
+reply_well : (opened : ℕ) (standing : FullStanding) (all : List Exchange) → Stands opened standing all → (session : ℕ) (reply : Reply)
     → whole opened (answered session standing.place reply all) ≡ (whole opened all && stands_on opened standing (history.Reply session reply))
 reply_well opened standing all stands session reply =
     let after = are_payable (standing_and opened standing (history.Reply session reply)) in
@@ -619,12 +618,12 @@ order_call all session n checkpoint caller at also (Some replied) e =
     all_call (are_in_order (exchange_of caller at also (Some replied))) all (exchange_of session n checkpoint None) e
     (unanswered (if also then iteration_of replied.reply else None))
 
-call_well : (opened : ℕ) (standing : Standing) (all : List Exchange) → Stands opened standing all → (session : ℕ) (checkpoint : Bool)
+call_well : (opened : ℕ) (standing : FullStanding) (all : List Exchange) → Stands opened standing all → (session : ℕ) (checkpoint : Bool)
     → whole opened (called session standing.place checkpoint all) ≡ (whole opened all && true)
 call_well opened standing all stands session checkpoint =
     let last = exchange_of session standing.place checkpoint None in
     let behind = called session standing.place checkpoint all in
-    let now : Standing = record standing { place = standing.place + 1; flights = standing.flights ++ flight_with session standing.place checkpoint ∷ [] } in
+    let now : FullStanding = record standing { place = standing.place + 1; flights = standing.flights ++ flight_with session standing.place checkpoint ∷ [] } in
     same_bool (whole opened behind) (whole opened all && true)
     (λ e. and_from (whole opened all) true (well_before_call opened session standing.place checkpoint all stands.before e) refl)
     (λ e.
@@ -644,19 +643,19 @@ call_well opened standing all stands session checkpoint =
     (λ need h. list_any-append (may_pay need) standing.flights (flight_with session standing.place checkpoint ∷ []) ∙ or_left _ _ h)
     (sym (owed_is opened standing all stands) ∙ r.1))))
 
-entry_stands : (opened : ℕ) (standing : Standing) (all : List Exchange) → Stands opened standing all → (entry : Entry)
+entry_stands : (opened : ℕ) (standing : FullStanding) (all : List Exchange) → Stands opened standing all → (entry : Entry)
     → Stands opened (standing_and opened standing entry) (exchanges_and all standing.place entry)
 entry_stands opened standing all stands (history.Call session asked) = call_stands opened standing all stands session (asks_for is_checkpoint (Some asked))
 entry_stands opened standing all stands (history.Begun session number start) = begun_stands opened standing all stands
 entry_stands opened standing all stands (history.Reply session reply) = reply_stands opened standing all stands session reply
 
-entry_well : (opened : ℕ) (standing : Standing) (all : List Exchange) → Stands opened standing all → (entry : Entry)
+entry_well : (opened : ℕ) (standing : FullStanding) (all : List Exchange) → Stands opened standing all → (entry : Entry)
     → whole opened (exchanges_and all standing.place entry) ≡ (whole opened all && stands_on opened standing entry)
 entry_well opened standing all stands (history.Call session asked) = call_well opened standing all stands session (asks_for is_checkpoint (Some asked))
 entry_well opened standing all stands (history.Begun session number start) = and_on (whole opened all)
 entry_well opened standing all stands (history.Reply session reply) = reply_well opened standing all stands session reply
 
-place_next : (opened : ℕ) (standing : Standing) (entry : Entry) → (standing_and opened standing entry).place ≡ standing.place + 1
+place_next : (opened : ℕ) (standing : FullStanding) (entry : Entry) → (standing_and opened standing entry).place ≡ standing.place + 1
 place_next opened standing (history.Call session asked) = refl
 place_next opened standing (history.Begun session number start) = refl
 place_next opened standing (history.Reply session reply) = refl
@@ -666,11 +665,11 @@ length_one [] entry = omega arith
 length_one (first ∷ entries) entry = let more = length_one entries entry in omega (arith, more)
 
 -- what is carried to an entry is what the entries before it say
-pub record Carried (opened : ℕ) (entries : List Entry) (standing : Standing) : Type 0 where
+pub record Carried (opened : ℕ) (entries : List Entry) (standing : FullStanding) : Type 0 where
   pub stands : Stands opened standing (exchanges entries)
   pub place : standing.place ≡ length entries
 
-carried_one : (opened : ℕ) (entries : List Entry) (standing : Standing) → Carried opened entries standing → (entry : Entry)
+carried_one : (opened : ℕ) (entries : List Entry) (standing : FullStanding) → Carried opened entries standing → (entry : Entry)
     → Carried opened (entries ++ entry ∷ []) (standing_and opened standing entry)
 carried_one opened entries standing carried entry = record {
   stands = subst (Stands opened (standing_and opened standing entry))
@@ -679,7 +678,7 @@ carried_one opened entries standing carried entry = record {
   place = place_next opened standing entry ∙ (ap (λ n. n + 1) carried.place ∙ sym (length_one entries entry));
 }
 
-carried_from : (opened : ℕ) (front : List Entry) (standing : Standing) → Carried opened front standing → (entries : List Entry)
+carried_from : (opened : ℕ) (front : List Entry) (standing : FullStanding) → Carried opened front standing → (entries : List Entry)
     → Carried opened (front ++ entries) (standing_from opened standing entries)
 carried_from opened front standing carried [] = subst (λ list. Carried opened list standing) (sym (append-nil front)) carried
 carried_from opened front standing carried (entry ∷ entries) =
@@ -695,7 +694,7 @@ stands_well opened entries entry =
     ap (whole opened) (exchanges_and_one entries entry ∙ ap (λ n. exchanges_and (exchanges entries) n entry) (sym c.place))
     ∙ entry_well opened (standing_after opened entries) (exchanges entries) c.stands entry
 
-standing_more : (opened : ℕ) (standing : Standing) (entries : List Entry) (entry : Entry)
+standing_more : (opened : ℕ) (standing : FullStanding) (entries : List Entry) (entry : Entry)
     → standing_from opened standing (entries ++ entry ∷ []) ≡ standing_and opened (standing_from opened standing entries) entry
 standing_more opened standing [] entry = refl
 standing_more opened standing (first ∷ entries) entry = standing_more opened (standing_and opened standing first) entries entry

@@ -14,10 +14,9 @@ use Rattle.dk_si.specs.declared.standing.Cause.{Cause}
 use Rattle.dk_si.specs.declared.standing.Cause.TheVariants.{Stop, Iteration}
 use Rattle.dk_si.specs.declared.standing.Need.{Need}
 use Rattle.dk_si.specs.declared.standing.Written.{Written}
-use Rattle.dk_si.specs.declared.standing.Standing.{Standing}
 use Rattle.dk_si.specs.ReplyTests.{is_refused, is_disk_stop, is_stop, iteration_of}
 use Rattle.dk_si.specs.Exchanges.{with_reply}
-use Rattle.dk_si.specs.Standing.{first_standing, settles, owes, stop_before, is_of, pays, first_stop, is_calling, written_at, written_by, is_settled, stopped_after, written_after, needs_by, needs_after, standing_and}
+use Rattle.dk_si.specs.Standing.{FullStanding, first_standing, settles, owes, stop_before, is_of, pays, first_stop, is_calling, written_at, written_by, is_settled, stopped_after, written_after, needs_by, needs_after, standing_and}
 use Rattle.dk_si.proofs.ExchangeLemmas.{exchange_of, replied_stays, is_before}
 use Rattle.dk_si.proofs.FrontLemmas.{all_by, any_map, answered}
 use Rattle.dk_si.proofs.TestLemmas.{all_same, any_same, any_or, all_and, twice, all_not, any_filter, all_filter, any_flat, all_flat, any_and}
@@ -132,7 +131,7 @@ needs_at opened all test flight replied =
     list_all (λ cause. list_any (told_in (paid_at replied.place cause)) all || test (need_of cause replied.place)) (owes opened flight.checkpoint replied.reply)
 
 -- what is carried is what the list says
-pub record Stands (opened : ℕ) (standing : Standing) (all : List Exchange) : Type 0 where
+pub record Stands (opened : ℕ) (standing : FullStanding) (all : List Exchange) : Type 0 where
   pub before : list_all (is_before standing.place) all ≡ true
   pub flights : (test : Flight → Bool) → list_any test standing.flights ≡ list_any (in_flight test) all
   pub stop : (place : ℕ) → stop_before standing.stop place ≡ list_any (told_in (stops_at place)) all
@@ -205,7 +204,7 @@ not_all P (x ∷ xs) = or_not (P x) (list_any P xs) ∙ ap (λ b. not (P x) && b
     or_not true b = refl
     or_not false b = refl
 
-pub flights_all : (opened : ℕ) (standing : Standing) (all : List Exchange) → Stands opened standing all → (test : Flight → Bool)
+pub flights_all : (opened : ℕ) (standing : FullStanding) (all : List Exchange) → Stands opened standing all → (test : Flight → Bool)
     → list_all test standing.flights ≡ list_all (all_in_flight test) all
 flights_all opened standing all stands test =
     all_not test standing.flights
@@ -214,7 +213,7 @@ flights_all opened standing all stands test =
     ∙ all_same _ _ all (λ e. not_flight test e.session e.place e.checkpoint e.replied)))
 
 -- a test of replies, behind one more
-pub told_more : (opened : ℕ) (standing : Standing) (all : List Exchange) → Stands opened standing all
+pub told_more : (opened : ℕ) (standing : FullStanding) (all : List Exchange) → Stands opened standing all
     → (test : Flight → Replied → Bool) (session : ℕ) (reply : Reply)
     → list_any (told_in test) (answered session standing.place reply all)
     ≡ (list_any (λ flight. is_of session flight && test flight (reply_at standing.place reply)) standing.flights || list_any (told_in test) all)
@@ -292,14 +291,14 @@ settled_is stopped written all one other (Iteration iteration) =
     ∙ any_same _ _ all (λ e. iteration_each iteration e.session e.place e.checkpoint e.replied)
 
 -- what stands behind a reply
-pub stopped_more : (opened : ℕ) (standing : Standing) (all : List Exchange) → Stands opened standing all → (session : ℕ) (reply : Reply)
+pub stopped_more : (opened : ℕ) (standing : FullStanding) (all : List Exchange) → Stands opened standing all → (session : ℕ) (reply : Reply)
     → stopped_after standing session reply ≡ list_any (told_in (settled_at Stop)) (answered session standing.place reply all)
 stopped_more opened standing all stands session reply = sym
     (told_more opened standing all stands (settled_at Stop) session reply
     ∙ (ap (λ b. b || list_any (told_in (settled_at Stop)) all) (any_and (is_refused is_disk_stop reply) (is_of session) standing.flights)
     ∙ ap (λ b. (is_calling standing session && is_refused is_disk_stop reply) || b) (sym stands.stopped)))
 
-pub written_more : (opened : ℕ) (standing : Standing) (all : List Exchange) → Stands opened standing all → (session : ℕ) (reply : Reply) (test : Written → Bool)
+pub written_more : (opened : ℕ) (standing : FullStanding) (all : List Exchange) → Stands opened standing all → (session : ℕ) (reply : Reply) (test : Written → Bool)
     → list_any test (written_after standing session reply) ≡ list_any (told_in (written_as test)) (answered session standing.place reply all)
 written_more opened standing all stands session reply test =
     list_any-append test standing.written (flat_map (written_by session standing.place reply) standing.flights)
@@ -311,7 +310,7 @@ written_more opened standing all stands session reply test =
     ∙ sym (told_more opened standing all stands (written_as test) session reply))))
 
 -- a need that the reply pays, or that was paid
-pub paid_more : (opened : ℕ) (standing : Standing) (all : List Exchange) → Stands opened standing all → (session : ℕ) (reply : Reply)
+pub paid_more : (opened : ℕ) (standing : FullStanding) (all : List Exchange) → Stands opened standing all → (session : ℕ) (reply : Reply)
     → (test : Need → Bool) (flight : Flight) (replied : Replied)
     → needs_at opened (answered session standing.place reply all) test flight replied
     ≡ needs_at opened all (λ need. list_any (pays session reply need) standing.flights || test need) flight replied
@@ -326,7 +325,7 @@ pub asked_same : (a b : Flight → Replied → Bool) → ((flight : Flight) (rep
 asked_same a b same session at checkpoint None = refl
 asked_same a b same session at checkpoint (Some replied) = same (flight_with session at checkpoint) replied
 
-pub needs_new : (opened : ℕ) (standing : Standing) (all : List Exchange) → Stands opened standing all → (session : ℕ) (reply : Reply)
+pub needs_new : (opened : ℕ) (standing : FullStanding) (all : List Exchange) → Stands opened standing all → (session : ℕ) (reply : Reply)
     → (test : Need → Bool) (flight : Flight)
     → list_all test (needs_by opened standing session reply flight)
     ≡ (not (is_of session flight) || needs_at opened (answered session standing.place reply all) test flight (reply_at standing.place reply))
@@ -345,7 +344,7 @@ needs_new opened standing all stands session reply test flight =
     ∙ sym (any_given (is_early standing.place) (told_in (paid_at standing.place cause)) (told_in (settled_at cause)) behind
     (λ e less. paid_early standing.place cause e.session e.place e.checkpoint e.replied less) (early session standing.place reply all stands.before)))))))
 
-pub needs_more : (opened : ℕ) (standing : Standing) (all : List Exchange) → Stands opened standing all → (session : ℕ) (reply : Reply) (test : Need → Bool)
+pub needs_more : (opened : ℕ) (standing : FullStanding) (all : List Exchange) → Stands opened standing all → (session : ℕ) (reply : Reply) (test : Need → Bool)
     → list_all test (needs_after opened standing session reply)
     ≡ list_all (asked_in (needs_at opened (answered session standing.place reply all) test)) (answered session standing.place reply all)
 needs_more opened standing all stands session reply test =
@@ -385,7 +384,7 @@ before_if n session reply caller at checkpoint (Some replied) h =
     ap (is_before (n + 1)) (replied_stays session n reply caller at checkpoint replied)
     ∙ and_from (nat_lt at (n + 1)) (nat_lt replied.place (n + 1)) (lt-ltb at (n + 1) (omega (arith, one))) (lt-ltb replied.place (n + 1) (omega (arith, other)))
 
-pub reply_stands : (opened : ℕ) (standing : Standing) (all : List Exchange) → Stands opened standing all → (session : ℕ) (reply : Reply)
+pub reply_stands : (opened : ℕ) (standing : FullStanding) (all : List Exchange) → Stands opened standing all → (session : ℕ) (reply : Reply)
     → Stands opened (standing_and opened standing (history.Reply session reply)) (answered session standing.place reply all)
 reply_stands opened standing all stands session reply = record {
   before = list_all-map (is_before (standing.place + 1)) (with_reply session standing.place reply) all
@@ -439,7 +438,7 @@ all_later n all before = all_by (is_before n) (is_before (n + 1)) all (λ e h. b
 pub within_later : (stop : Option ℕ) (n : ℕ) → ((first : ℕ) → stop ≡ Some first → first < n) → (first : ℕ) → stop ≡ Some first → first < n + 1
 within_later stop n within first is = let less = within first is in omega (arith, less)
 
-pub call_stands : (opened : ℕ) (standing : Standing) (all : List Exchange) → Stands opened standing all → (session : ℕ) (checkpoint : Bool)
+pub call_stands : (opened : ℕ) (standing : FullStanding) (all : List Exchange) → Stands opened standing all → (session : ℕ) (checkpoint : Bool)
     → Stands opened
     (record standing { place = standing.place + 1; flights = standing.flights ++ flight_with session standing.place checkpoint ∷ [] })
     (called session standing.place checkpoint all)
@@ -458,7 +457,7 @@ call_stands opened standing all stands session checkpoint = record {
   needs = λ test. stands.needs test ∙ needs_call opened session standing.place checkpoint all test;
 }
 
-pub begun_stands : (opened : ℕ) (standing : Standing) (all : List Exchange) → Stands opened standing all
+pub begun_stands : (opened : ℕ) (standing : FullStanding) (all : List Exchange) → Stands opened standing all
     → Stands opened (record standing { place = standing.place + 1 }) all
 begun_stands opened standing all stands = record {
   before = all_later standing.place all stands.before;

@@ -13,6 +13,7 @@ pub mod MayAnswer
 pub mod IsStep
 pub mod Exchanges
 pub mod IsLegal
+pub mod ShortStanding
 pub mod Standing
 pub mod OneThread
 pub mod Answer

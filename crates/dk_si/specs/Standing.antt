@@ -13,15 +13,28 @@ use Rattle.dk_si.specs.declared.standing.Cause.{Cause}
 use Rattle.dk_si.specs.declared.standing.Cause.TheVariants.{Stop, Iteration}
 use Rattle.dk_si.specs.declared.standing.Flight.{Flight}
 use Rattle.dk_si.specs.declared.standing.Need.{Need}
-use Rattle.dk_si.specs.declared.standing.Standing.{Standing}
 use Rattle.dk_si.specs.declared.standing.Written.{Written}
 use Rattle.dk_si.specs.Exchanges.{is_checkpoint, exchanges}
 use Rattle.dk_si.specs.IsLegal.{stops_well, iterates_well}
 use Rattle.dk_si.specs.Machine.{asks_for}
 use Rattle.dk_si.specs.ReplyTests.{is_refused, is_disk_stop, is_iteration, has_no_iteration, is_commit, iteration_of, is_stop}
 
+-- what stops and iterations ask of the entries to come
+pub record FullStanding : Type 0 where
+  -- the place of the next entry
+  pub place : ℕ
+  -- the place of the first reply after which nothing is committed
+  pub stop : Option ℕ
+  -- a reply told that its call stopped the engine
+  pub stopped : Bool
+  -- the calls that have no reply yet
+  pub flights : List Flight
+  pub written : List Written
+  -- what no reply has settled
+  pub needs : List Need
+
 -- before the first entry
-abbrev pub first_standing : Standing
+abbrev pub first_standing : FullStanding
 first_standing = record { place = 0; stop = None; stopped = false; flights = []; written = []; needs = [] }
 
 -- a call that may still have done so
@@ -67,7 +80,7 @@ abbrev pub may_pay : Need → Flight → Bool
 may_pay need flight = nat_lt flight.place need.place && waits need.cause flight.checkpoint
 
 -- a need that no reply settled and no call in flight may settle
-abbrev pub are_payable : Standing → Bool
+abbrev pub are_payable : FullStanding → Bool
 are_payable standing = list_all (λ need. list_any (may_pay need) standing.flights) standing.needs
 
 -- an iteration is told apart from one that was answered, and is above it where that stands before the call
@@ -81,18 +94,18 @@ abbrev pub is_only : ℕ → Flight → Flight → Bool
 is_only session flight other = not (is_of session other && other.checkpoint) || flight.place == other.place
 
 -- what the reply to this CHECKPOINT asks of the iterations
-abbrev pub iterates : ℕ → Standing → ℕ → Flight → Option ℕ → Bool
+abbrev pub iterates : ℕ → FullStanding → ℕ → Flight → Option ℕ → Bool
 iterates opened standing session flight None = true
 iterates opened standing session flight (Some iteration) =
     nat_lt opened iteration && (list_all (comes_after flight iteration) standing.written && list_all (is_only session flight) standing.flights)
 
 -- what the reply to this call asks of what stands: no commit behind a stop, and no checkpoint that is called behind one
-abbrev pub may_end : ℕ → Standing → ℕ → Reply → Flight → Bool
+abbrev pub may_end : ℕ → FullStanding → ℕ → Reply → Flight → Bool
 may_end opened standing session reply flight =
     not ((is_some standing.stop && is_commit reply) || (stop_before standing.stop flight.place && is_some (iteration_of reply)))
     && (not flight.checkpoint || iterates opened standing session flight (iteration_of reply))
 
-abbrev pub may_end_all : ℕ → Standing → ℕ → Reply → Bool
+abbrev pub may_end_all : ℕ → FullStanding → ℕ → Reply → Bool
 may_end_all opened standing session reply =
     list_all (λ flight. not (is_of session flight) || may_end opened standing session reply flight) standing.flights
 
@@ -102,7 +115,7 @@ first_stop None place = Some place
 first_stop (Some first) place = Some first
 
 -- the session has a call in flight
-abbrev pub is_calling : Standing → ℕ → Bool
+abbrev pub is_calling : FullStanding → ℕ → Bool
 is_calling standing session = list_any (is_of session) standing.flights
 
 abbrev pub written_at : ℕ → Flight → Option ℕ → List Written
@@ -119,26 +132,26 @@ abbrev pub is_settled : Bool → List Written → Cause → Bool
 is_settled stopped written Stop = stopped
 is_settled stopped written (Iteration iteration) = list_any (λ other. other.iteration == iteration) written
 
-abbrev pub stopped_after : Standing → ℕ → Reply → Bool
+abbrev pub stopped_after : FullStanding → ℕ → Reply → Bool
 stopped_after standing session reply = (is_calling standing session && is_refused is_disk_stop reply) || standing.stopped
 
-abbrev pub written_after : Standing → ℕ → Reply → List Written
+abbrev pub written_after : FullStanding → ℕ → Reply → List Written
 written_after standing session reply = standing.written ++ flat_map (written_by session standing.place reply) standing.flights
 
 -- what the reply to this call needs, and is not settled yet
-abbrev pub needs_by : ℕ → Standing → ℕ → Reply → Flight → List Need
+abbrev pub needs_by : ℕ → FullStanding → ℕ → Reply → Flight → List Need
 needs_by opened standing session reply flight =
     if is_of session flight then map (λ cause. record { cause = cause; place = standing.place })
     (filter (λ cause. not (is_settled (stopped_after standing session reply) (written_after standing session reply) cause)) (owes opened flight.checkpoint reply))
     else []
 
-abbrev pub needs_after : ℕ → Standing → ℕ → Reply → List Need
+abbrev pub needs_after : ℕ → FullStanding → ℕ → Reply → List Need
 needs_after opened standing session reply =
     filter (λ need. not (list_any (pays session reply need) standing.flights)) standing.needs
     ++ flat_map (needs_by opened standing session reply) standing.flights
 
 -- what stands behind one more entry
-abbrev pub standing_and : ℕ → Standing → Entry → Standing
+abbrev pub standing_and : ℕ → FullStanding → Entry → FullStanding
 standing_and opened standing (entry.Call session asked) = record standing {
   place = standing.place + 1;
   flights = standing.flights ++ record { session = session; place = standing.place; checkpoint = asks_for is_checkpoint (Some asked) } ∷ [];
@@ -154,18 +167,18 @@ standing_and opened standing (entry.Reply session reply) = record {
 }
 
 -- stops and iterations stand well behind this entry too
-abbrev pub stands_on : ℕ → Standing → Entry → Bool
+abbrev pub stands_on : ℕ → FullStanding → Entry → Bool
 stands_on opened standing (entry.Call session asked) = true
 stands_on opened standing (entry.Begun session number start) = true
 stands_on opened standing (entry.Reply session reply) =
     may_end_all opened standing session reply && are_payable (standing_and opened standing (entry.Reply session reply))
 
 -- the standing behind these entries
-abbrev pub standing_from : ℕ → Standing → List Entry → Standing
+abbrev pub standing_from : ℕ → FullStanding → List Entry → FullStanding
 standing_from opened standing [] = standing
 standing_from opened standing (entry ∷ entries) = standing_from opened (standing_and opened standing entry) entries
 
-abbrev pub standing_after : ℕ → List Entry → Standing
+abbrev pub standing_after : ℕ → List Entry → FullStanding
 standing_after opened entries = standing_from opened first_standing entries
 
 -- the standing decides, with each entry, whether stops and iterations stand well over the whole list

@@ -1,4 +1,8 @@
 //! Laws of the machine. None of these functions does anything: what is proved is its contract.
+ghost use Rattle.std.specs.Prelude.{◌*◌, ◌≤◌};
+ghost use Rattle.dk_si.specs.declared.limits.TheConstants.{MAX_NEW_ROWS, SESSIONS, SPARE_ROWS};
+ghost use Rattle.dk_si.specs.ShortStanding.{FlightsAreFew, ShortAndOne, ShortAnswersAlike};
+ghost use Rattle.dk_si.specs.ShortStanding.{ShortStandsWell, StandingIsShort};
 ghost use Rattle.dk_si.specs.Standing.{StandingAndOne, StandsWell};
 ghost use Rattle.dk_si.specs.Laws.{CommitsStay, FrontsAreSteps, StateAndOne, StepsAndOne, StatesSinceAndOne};
 ghost use Rattle.dk_si.specs.Laws.{ExchangesAndOne, FrontsAreLegal, NetStays, NetGains, SeesItsSnapshot};
@@ -59,6 +63,35 @@ pub fn stands_well()
     ensures { StandsWell }
 {}
 
+/// What is kept of it goes on from one entry to the next.
+#[tactic(auto, using(crate::proofs::ShortLemmas::short_and_one))]
+pub fn short_and_one()
+    ensures { ShortAndOne }
+{}
+
+/// What is kept tells as much: whether stops and iterations stand well over a list with one more entry.
+#[tactic(auto, using(crate::proofs::ShortLemmas::short_stands_well))]
+pub fn short_stands_well()
+    ensures { ShortStandsWell }
+{}
+
+/// Behind a list that stands well it decides as the full standing does.
+#[tactic(auto, using(crate::proofs::ShortLemmas::short_answers_alike))]
+pub fn short_answers_alike()
+    ensures { ShortAnswersAlike }
+{}
+
+/// No more calls are in flight than there are sessions.
+pub fn flights_are_few()
+    ensures { FlightsAreFew }
+{}
+
+/// What is kept is short: of the calls in flight as many as there are sessions, of the iterations and the needs as many
+/// as entries came since the first call in flight that they may concern.
+pub fn standing_is_short()
+    ensures { StandingIsShort }
+{}
+
 /// Behind a statement a transaction still has the rows that it had.
 #[tactic(auto, using(crate::proofs::NetLemmas::net_stays))]
 pub fn net_stays()
@@ -103,4 +136,9 @@ pub fn sees_earlier_commits()
 /// First committer wins: of two transactions that overlap and change one row, never both commit.
 pub fn first_committer_wins()
     ensures { FirstCommitterWins }
+{}
+
+/// The rows that are kept free are as many as the transactions of all sessions may add.
+pub fn spares_for_all()
+    ensures { SESSIONS * MAX_NEW_ROWS ≤ SPARE_ROWS }
 {}

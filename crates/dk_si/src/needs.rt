@@ -1,12 +1,13 @@
 //! What replies need of calls before them: that one stopped the engine or wrote an iteration, or may have.
-ghost use Rattle.std.specs.Prelude.{◌≡◌, option_to_list};
+ghost use Rattle.std.specs.Prelude.{◌≡◌, option_to_list, OnErr, OnOk};
 ghost use Rattle.std.specs.List.{list_any};
+ghost use Rattle.dk_si.specs.ShortStanding.{add_need, is_same_cause};
 ghost use Rattle.dk_si.specs.Standing.{waits, settles, owes, owes_iteration, owes_refused, pays, may_pay};
 
 use crate::limits::MAX_ITERATION;
 use crate::replies::{has_no_iteration, is_disk_stop, is_iteration};
 use crate::standing::{Cause, Flight, Need, is_of};
-use dk_types::{Refusal, Reply};
+use dk_types::{List, OutOfMemory, Refusal, Reply};
 
 /// Whether a call in flight may still be the cause.
 fn waits(cause: Cause, checkpoint: bool) -> bool
@@ -86,4 +87,37 @@ pub fn is_payable(need: &Need, flights: &[Flight]) -> bool
     ensures { result ≡ list_any (may_pay need.now) flights.now }
 {
     flights.iter().any(|flight| flight.place < need.place && waits(need.cause, flight.checkpoint))
+}
+
+fn is_same_cause(first: Cause, second: Cause) -> bool
+    ensures { result ≡ is_same_cause first second }
+{
+    match first {
+        Cause::Stop => match second {
+            Cause::Stop => true,
+            Cause::Iteration { .. } => false,
+        },
+        Cause::Iteration { iteration } => match second {
+            Cause::Stop => false,
+            Cause::Iteration { iteration: other } => iteration == other,
+        },
+    }
+}
+
+/// Whether there is a need of that cause.
+fn has_cause(needs: &[Need], cause: Cause) -> bool
+    ensures { result ≡ list_any (λ other. is_same_cause other.cause cause) needs.now }
+{
+    needs.iter().any(|other| is_same_cause(other.cause, cause))
+}
+
+/// Adds a need, unless one of its cause is there: of the needs of one cause the earliest will do.
+pub fn add_need(needs: &mut List<Need>, need: Need) -> Result<(), OutOfMemory>
+    ensures ok { OnOk result (needs.new ≡ add_need needs.old need) }
+    ensures err { OnErr result (needs.new ≡ needs.old) }
+{
+    if has_cause(needs.as_slice(), need.cause) {
+        return Ok(());
+    }
+    needs.push(need)
 }

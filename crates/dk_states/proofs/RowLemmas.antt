@@ -6,7 +6,7 @@ use Rattle.dk_values.specs.declared.value.Value.{Value}
 use Rattle.dk_syntax.specs.declared.statement.Tuple.{Tuple}
 use Rattle.dk_syntax.specs.Literals.{literals_of}
 use Rattle.dk_si.specs.Meaning.{rows_of}
-use Rattle.dk_states.specs.Tuples.{rows_behind}
+use Rattle.dk_states.specs.RowsBehind.{rows_behind}
 
 -- at the start no row stands before them
 pub start : (all : Option (List (List Value))) → rows_behind [] all ≡ all

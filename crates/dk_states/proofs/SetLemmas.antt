@@ -30,6 +30,12 @@ next_and_rest (y ∷ ys) (suc i) x less is =
     let n : suc i + 1 ≡ suc (i + 1) = omega arith in
     ap (λ k. x ∷ drop k (y ∷ ys)) n ∙ next_and_rest ys i x (omega (arith, less)) is
 
+-- what the sets that are left decide, their first and the others decide
+pub first_set : (schema : List Column) (left : List Set) (set : Set) (all : Bool) → 1 ≤ length left
+    → set ≡ get_or left 0 set → can_set schema left ≡ all
+    → can_set schema (set ∷ take (length left - 1) (drop 1 left)) ≡ all
+first_set schema left set all some is before = ap (can_set schema) (first_and_rest left set some is) ∙ before
+
 by_sets : (schema : List Column) (set : Set) (rest : List Set) (well again all : Bool)
     → well ≡ (is_some (column_of schema set.column.name) && is_big_literal (literal_of set.value))
     → again ≡ sets_column set.column.name rest → can_set schema (set ∷ rest) ≡ all → (well && (not again

@@ -1,1 +1,1 @@
-pub mod Tuples
+pub mod RowsBehind

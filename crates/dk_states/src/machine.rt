@@ -166,7 +166,7 @@ fn change_transition(
 }
 
 /// What a reply makes of an open transaction.
-fn transition(
+pub fn transition(
     alloc: Global,
     inside: &Inside<'_>,
     asked: &Option<Asked>,
@@ -203,7 +203,7 @@ fn commit_net(active: &OpenTransaction) -> Result<Transition, OutOfMemory>
 }
 
 /// The session's last transaction, if the entry that ended it is this one, behind so many commits.
-fn last_transaction(
+pub fn last_transaction(
     number: u64,
     transaction: &Transaction,
     commit: &Option<Commit>,
@@ -235,7 +235,7 @@ fn last_transaction(
 }
 
 /// A session after a reply.
-fn session_behind(
+pub fn session_behind(
     transaction: Transaction,
     writes: Option<WriteSet>,
     last: Option<LastTransaction>,
@@ -251,7 +251,7 @@ fn session_behind(
 }
 
 /// A transaction that is aborted ends by a ROLLBACK.
-fn after_aborted(reply: &Reply) -> Transaction
+pub fn after_aborted(reply: &Reply) -> Transaction
     ensures { result ≡ after_aborted reply.now }
 {
     match reply {

@@ -1,7 +1,7 @@
 -- Each set decides, or the others do.
-use Rattle.std.proofs.Common.{◌≡◌, ◌-◌, take, drop, length, ap, ◌∙◌, subst, sym}
-use Rattle.dk_si.specs.Meaning.{can_set, sets_column}
-use Rattle.dk_states.proofs.SetLemmas.{first_and_rest, no_number, set_again, well_set}
+use Rattle.std.proofs.Common.{◌-◌, take, drop, length, ap, ◌∙◌}
+use Rattle.dk_si.specs.Meaning.{sets_column}
+use Rattle.dk_states.proofs.SetLemmas.{first_set, no_number, set_again, well_set}
 use Rattle.dk_states.proofs.meaning.can_set.Goals as goal
 use Rattle.dk_states.proofs.meaning.can_set.Goals.{then-not-sets_number-via-then-not-sets_number}
 use Rattle.dk_states.proofs.meaning.can_set.Goals.{then-not-sets_number-via-else-not-sets_number+then-sets_column}
@@ -11,9 +11,7 @@ returns-then-not-sets_number c =
     let left = c.sets.left.now in
     let set = c.set-item.result in
     let rest = take (length left - 1) (drop 1 left) in
-    let parts = first_and_rest left set c.in-len1-up.len_at_least c.set-item.is in
-    let before = subst (λ items. can_set c.args.schema.now items ≡ can_set c.args.schema.now c.args.sets.now) (sym
-    parts) c.sets.invariant in
+    let before = first_set c.args.schema.now left set _ c.in-len1-up.len_at_least c.set-item.is c.sets.invariant in
     elim c.then-not-sets_number.branch [
       | then-not-sets_number-via-then-not-sets_number w ↦ no_number c.args.schema.now set rest c.sets_number.result
           c.sets_number.result _ c.sets_number.ensures before w.if-not-sets_number.true
@@ -28,9 +26,7 @@ sets-preserved c =
     let left = c.sets.left.now in
     let set = c.set-item.result in
     let rest = take (length left - 1) (drop 1 left) in
-    let parts = first_and_rest left set c.in-len1-up.len_at_least c.set-item.is in
-    let before = subst (λ items. can_set c.args.schema.now items ≡ can_set c.args.schema.now c.args.sets.now) (sym
-    parts) c.sets.invariant in
+    let before = first_set c.args.schema.now left set _ c.in-len1-up.len_at_least c.set-item.is c.sets.invariant in
     well_set c.args.schema.now set rest c.sets_number.result c.sets_column.result _ c.sets_number.ensures
     (c.sets_column.ensures ∙ ap (λ name. sets_column name rest) c.as_slice.ensures) before c.if-not-sets_number.false
     c.if-sets_column.false

@@ -2,7 +2,7 @@
 use Rattle.std.proofs.Common.{◌≡◌, ◌++◌, drop}
 use Rattle.std.specs.Prelude.{option_map}
 use Rattle.dk_si.specs.Meaning.{rows_of}
-use Rattle.dk_states.specs.Tuples.{rows_behind}
+use Rattle.dk_states.specs.RowsBehind.{rows_behind}
 use Rattle.dk_states.proofs.meaning.rows_of.Given as goal
 
 abbrev pub invariant-loop-tuple : goal.invariant-loop-tuple
