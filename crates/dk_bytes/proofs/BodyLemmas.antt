@@ -4,13 +4,8 @@ use Rattle.std.specs.Prelude.{IfOk}
 use Rattle.dk_bytes.specs.declared.field_error.FieldError.{FieldError}
 use Rattle.dk_bytes.specs.Fields.{IsBytes}
 use Rattle.dk_bytes.specs.Reading.{Gives, IsBody}
+use Rattle.dk_bytes.specs.Bodies.{IsCodec, ReadsBody}
 use Rattle.dk_bytes.proofs.OutcomeLemmas.{gives_found, gives_only}
-
--- the reading of a body: what is read stands there, and what is written is read
-pub record IsCodec {A : Type 0} (read : ℕ → List ℕ → Result (List A) ℕ) (Is : List A → Type 0) (spell : List A → List ℕ) : Type 0 where
-  pub takes : (count : ℕ) (bytes : List ℕ) (xs : List A) → IsBytes bytes → length bytes < 2 ^ 64
-      → read count bytes ≡ Ok xs → IsBody Is spell count bytes xs
-  pub again : (xs : List A) → Is xs → read (length xs) (spell xs) ≡ Ok xs
 
 module _ {A : Type 0} (read : ℕ → List ℕ → Result (List A) ℕ) (Is : List A → Type 0) (spell : List A → List ℕ) (codec : IsCodec read Is spell) (count : ℕ) (bytes : List ℕ) where
   -- a body is read as the values that it stands for
@@ -30,3 +25,7 @@ module _ {A : Type 0} (read : ℕ → List ℕ → Result (List A) ℕ) (Is : Li
     -- what stands there was answered
     pub body_only : (xs : List A) → IsBody Is spell count bytes xs → Gives view result (Ok xs)
     body_only xs h = gives_only view result (read count bytes) xs gives (body_read xs h)
+
+    -- what a call answered is what its grammar says
+    pub body_reads : IsBytes bytes → length bytes < 2 ^ 64 → ReadsBody Is spell read count bytes view result
+    body_reads fits small = record { found = body_found fits small; only = body_only; place = gives }

@@ -17,3 +17,4 @@ pub mod PackingLemmas
 pub mod WidthLemmas
 pub mod JoinedBitsLemmas
 pub mod BodyLemmas
+pub mod NarrowLemmas

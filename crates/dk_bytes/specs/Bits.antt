@@ -1,5 +1,5 @@
 -- Numbers of one width in a string of bytes: number i stands in bits w i to w i + w - 1, the least bit first.
-use Rattle.std.specs.Prelude.{◌≡◌, ℕ, ◌+◌, ◌-◌, ◌*◌, ◌/◌, ◌^◌, ◌==◌, List, ◌∷◌, ◌++◌, length, Option, Some, None, if◌then◌else◌}
+use Rattle.std.specs.Prelude.{◌≡◌, ℕ, ◌+◌, ◌-◌, ◌*◌, ◌/◌, ◌%◌, ◌^◌, ◌==◌, List, ◌∷◌, ◌++◌, length, Option, Some, None, if◌then◌else◌}
 use Rattle.std.specs.Int.{w64, leading_zeros}
 use Rattle.std.specs.Simd.Lanes.{number_l, digits_l}
 
@@ -35,6 +35,10 @@ packed width numbers = digits_l 256 (byte_count (width * length numbers)) (numbe
 -- the first n numbers of that width in a string of bytes
 abbrev pub unpacked : ℕ → ℕ → List ℕ → List ℕ
 unpacked width n bytes = digits_l (2 ^ width) n (number_l 256 bytes)
+
+-- number i of that width in a string of bytes
+abbrev pub number_in : ℕ → ℕ → List ℕ → ℕ
+number_in width i bytes = number_l 256 bytes / 2 ^ (width * i) % 2 ^ width
 
 -- those numbers, where no bit behind them is 1
 abbrev pub numbers_in : ℕ → ℕ → List ℕ → Option (List ℕ)

@@ -5,3 +5,4 @@ pub mod PlainValue
 pub mod ColumnFields
 pub mod RowFields
 pub mod Bits
+pub mod Bodies

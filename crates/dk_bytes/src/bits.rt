@@ -172,7 +172,7 @@ fn are_zero(bytes: &[u8]) -> bool
 
 /// The first eight bytes as a number, the least byte first, with zeros where there are fewer, and the bytes behind
 /// them.
-fn split_word(bytes: &[u8]) -> (u64, &[u8])
+pub(crate) fn split_word(bytes: &[u8]) -> (u64, &[u8])
     ensures { number 256 bytes.now ≡ result.0 + 2 ^ 64 * number 256 result.1.now }
 {
     if bytes.len() < 8 {

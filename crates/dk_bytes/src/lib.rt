@@ -15,6 +15,7 @@ mod columns;
 mod cursor;
 mod field_error;
 mod name;
+mod narrow;
 mod numbers;
 mod plain_value;
 mod present;
@@ -28,6 +29,7 @@ pub use columns::{columns_len, put_columns, read_columns};
 pub use cursor::{Cursor, Short};
 pub use field_error::{FieldError, SegError};
 pub use name::{name_len, put_name, read_name, take_name};
+pub use narrow::{is_zero_behind, packed_number};
 pub use numbers::{bit_width, byte_count, pack, take_packed, unpack};
 pub use plain_value::{
     are_plain, copy_value, is_same, plain_len, put_value, read_value, take_text,

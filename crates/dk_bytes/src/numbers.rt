@@ -8,6 +8,7 @@ ghost use Rattle.dk_bytes.specs.Reading.{Gives};
 use crate::bits::{BitReader, PendingBits};
 use crate::cursor::Cursor;
 use crate::field_error::FieldError;
+use crate::narrow::{is_zero_behind, numbers_within};
 use std::alloc::{AllocError as OutOfMemory, Global};
 
 /// Appends numbers of one width of at most 64 bits. Without memory some bytes may have been appended.
@@ -26,6 +27,42 @@ pub fn pack(out: &mut Vec<u8>, width: u32, numbers: &[u64]) -> Result<(), OutOfM
 
 /// The first `count` numbers of one width in the bytes, or nothing where a bit behind them is 1.
 pub fn unpack(
+    alloc: Global,
+    bytes: &[u8],
+    width: u32,
+    count: usize,
+) -> Result<Option<Vec<u64>>, OutOfMemory>
+    requires { width ≤ 64 }
+    ensures { IfOk result (λ found. option_map (λ v. v.items) found ≡ numbers_in width count bytes.now) }
+{
+    if width as u128 * count as u128 <= 8 * bytes.len() as u128 {
+        unpack_within(alloc, bytes, width, count)
+    } else {
+        unpack_beyond(alloc, bytes, width, count)
+    }
+}
+
+/// The numbers, where the bytes have them all.
+fn unpack_within(
+    alloc: Global,
+    bytes: &[u8],
+    width: u32,
+    count: usize,
+) -> Result<Option<Vec<u64>>, OutOfMemory>
+    requires width { width ≤ 64 }
+    requires within { width * count ≤ 8 * length bytes.now }
+    ensures { IfOk result (λ found. option_map (λ v. v.items) found ≡ numbers_in width count bytes.now) }
+{
+    let numbers = numbers_within(alloc, bytes, width, count)?;
+    if is_zero_behind(bytes, width, count) {
+        Ok(Some(numbers))
+    } else {
+        Ok(None)
+    }
+}
+
+/// The numbers, with zeros where the bytes have ended.
+fn unpack_beyond(
     alloc: Global,
     bytes: &[u8],
     width: u32,

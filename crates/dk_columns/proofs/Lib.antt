@@ -1,3 +1,4 @@
+pub mod CopyLemmas
 pub mod MaskLemmas
 pub mod OptionsLemmas
 pub mod StoredLemmas

@@ -4,7 +4,7 @@ use Rattle.std.specs.Prelude.{slice_get, slice_set, replicate, take, Result, Ok,
 use Rattle.std.specs.Int.{w64, bit_at, bit_not, div_ceil}
 use Rattle.std.specs.Int.RustNames.{bit_and, bit_or}
 use Rattle.std.proofs.lemmas.Bool.{cases_lt, cases_eq}
-use Rattle.std.proofs.lemmas.List.{get_or-set_same, get_or-set_other, get_or_past, get_or-take, length-take, set-append_left, take-append-le, take_all}
+use Rattle.std.proofs.lemmas.List.{get_or-set_same, get_or-set_other, get_or_past, get_or-take, length-take, set-append_left, take-append-le, take_all, append-nil, append_assoc}
 use Rattle.std.proofs.lemmas.Grind.{div_ceil_times}
 use Rattle.std.proofs.Math.Seq.{set-append_seam}
 use Rattle.std.proofs.lemmas.Nat.Bits.{bit_at_set_same, bit_at_set_other, shr_and_one, bit_at_ones, bit_at_clear_same, bit_at_clear_other}
@@ -102,6 +102,19 @@ replicate_more (suc n) b = ap (λ (xs : List Bool). b ∷ xs) (replicate_more n 
 pub all_set : (n : ℕ) → flags n [] ≡ replicate n true
 all_set zero = refl
 all_set (suc n) = ap (λ (xs : List Bool). xs ++ flag [] n ∷ []) (all_set n) ∙ ap (λ (b : Bool). replicate n true ++ b ∷ []) (no_words n) ∙ replicate_more n true
+
+-- flags that are set, behind the words' last one
+pub set_behind : (n count : ℕ) (words : List ℕ) → ((i : ℕ) → n ≤ i → flag words i ≡ true) → flags (n + count) words ≡ flags n words ++ replicate count true
+set_behind n zero words h =
+    let none : n + 0 ≡ n = omega arith in
+    ap (λ (k : ℕ). flags k words) none ∙ sym (append-nil (flags n words))
+set_behind n (suc count) words h =
+    let next : n + suc count ≡ suc (n + count) = omega arith in
+    ap (λ (k : ℕ). flags k words) next
+    ∙ ap (λ (xs : List Bool). xs ++ flag words (n + count) ∷ []) (set_behind n count words h)
+    ∙ ap (λ (b : Bool). (flags n words ++ replicate count true) ++ b ∷ []) (h (n + count) (omega arith))
+    ∙ append_assoc (flags n words) (replicate count true) (true ∷ [])
+    ∙ ap (λ (xs : List Bool). flags n words ++ xs) (replicate_more count true)
 
 pub whole : (n : ℕ) (words : List ℕ) (shown : List Bool) → length words ≡ 0 → flags n words ≡ shown → shown ≡ replicate (length shown) true
 whole n [] shown e f =

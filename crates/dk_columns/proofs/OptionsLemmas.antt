@@ -1,6 +1,6 @@
 -- Items with flags.
 use Rattle.std.proofs.Common.{◌≡◌, ℕ, ℤ, zero, suc, ◌<◌, Bool, true, false, List, [], ◌∷◌, ◌++◌, length, map, take, Option, Some, refl, ap, sym, ◌∙◌, arith}
-use Rattle.std.specs.Prelude.{slice_get, slice_set, is_some}
+use Rattle.std.specs.Prelude.{slice_get, slice_set, is_some, replicate}
 use Rattle.dk_columns.specs.Options.{option_if, options, Stands, AllStand, number_or_zero}
 
 module _ {T : Type 0} where
@@ -56,6 +56,29 @@ stand_set [] (m ∷ ns) i b n h s = absurd h
 stand_set (a ∷ bs) [] i b n h s = absurd h
 stand_set (a ∷ bs) (m ∷ ns) zero b n h s = (s, h.1)
 stand_set (a ∷ bs) (m ∷ ns) (suc i) b n h s = (h.0, stand_set bs ns i b n h.1 s)
+
+pub stand_copies : (bs : List Bool) (ns : List ℤ) (b : Bool) (n : ℤ) (count : ℕ) → AllStand bs ns → Stands b n → AllStand (bs ++ replicate count b) (ns ++ replicate count n)
+stand_copies [] [] b n zero h s = tt
+stand_copies [] [] b n (suc count) h s = (s, stand_copies [] [] b n count h s)
+stand_copies [] (m ∷ ns) b n count h s = absurd h
+stand_copies (a ∷ bs) [] b n count h s = absurd h
+stand_copies (a ∷ bs) (m ∷ ns) b n count h s = (h.0, stand_copies bs ns b n count h.1 s)
+
+pub options_copies : (bs : List Bool) (ns : List ℤ) (b : Bool) (n : ℤ) (count : ℕ) → AllStand bs ns → options (bs ++ replicate count b) (ns ++ replicate count n) ≡ options bs ns ++ replicate count (option_if b n)
+options_copies [] [] b n zero h = refl
+options_copies [] [] b n (suc count) h = ap (λ (os : List (Option ℤ)). option_if b n ∷ os) (options_copies [] [] b n count h)
+options_copies [] (m ∷ ns) b n count h = absurd h
+options_copies (a ∷ bs) [] b n count h = absurd h
+options_copies (a ∷ bs) (m ∷ ns) b n count h = ap (λ (os : List (Option ℤ)). option_if a m ∷ os) (options_copies bs ns b n count h.1)
+
+-- numbers of which none is missing
+pub all_stand : (ns : List ℤ) → AllStand (replicate (length ns) true) ns
+all_stand [] = tt
+all_stand (n ∷ ns) = (tt, all_stand ns)
+
+pub all_there : (ns : List ℤ) → options (replicate (length ns) true) ns ≡ map Some ns
+all_there [] = refl
+all_there (n ∷ ns) = ap (λ (os : List (Option ℤ)). Some n ∷ os) (all_there ns)
 
 pub stand_front : (n : ℕ) (bs : List Bool) (ns : List ℤ) → AllStand bs ns → AllStand (take n bs) (take n ns)
 stand_front zero bs ns h = tt

@@ -1,6 +1,6 @@
 -- A value, or a row, that is put in a place of columns.
-use Rattle.std.proofs.Common.{◌≡◌, ◌≢◌, ℕ, zero, suc, ◌+◌, ◌<◌, ◌≤◌, List, [], ◌∷◌, ◌++◌, length, map, take, get_or, Some, refl, ap, sym, ◌∙◌, subst, inl, inr, arith}
-use Rattle.std.specs.Prelude.{slice_get, slice_set, replicate, Result, Ok, Err, OnOk, OnErr}
+use Rattle.std.proofs.Common.{◌≡◌, ◌≢◌, ℕ, zero, suc, ◌+◌, ◌<◌, ◌≤◌, List, [], ◌∷◌, ◌++◌, length, take, get_or, Some, refl, ap, sym, ◌∙◌, subst, inl, inr, arith}
+use Rattle.std.specs.Prelude.{slice_get, slice_set, replicate, Result, Ok, Err, OnOk}
 use Rattle.std.specs.List.{All}
 use Rattle.std.proofs.lemmas.List.{get_or-take, length-take}
 use Rattle.std.proofs.lemmas.List.Elements.{All-take}
@@ -9,7 +9,7 @@ use Rattle.dk_values.specs.declared.value.ColType.TheVariants as types
 use Rattle.dk_values.specs.declared.value.Value.{Value}
 use Rattle.dk_values.specs.declared.value.Value.TheVariants.{Null}
 use Rattle.dk_columns.specs.Columns.{Column, IsOfKind, with_value, with_set, with_front}
-use Rattle.dk_columns.specs.OptionTables.{row_at, kinds_of, put_at, with_put, with_row_put, with_cell_put, IsLong, AreLong, FitsKinds, IsKindAt, IsFrontPut, IsCut, SameFront}
+use Rattle.dk_columns.specs.OptionTables.{row_at, kinds_of, put_at, with_put, with_row_put, with_cell_put, IsLong, AreLong, FitsKinds, IsKindAt, IsCut, SameFront}
 
 put_here : (i : ℕ) (v d : Value) (vs : List Value) → i ≤ length vs → get_or (put_at i v vs) i d ≡ v
 put_here zero v d [] le = refl

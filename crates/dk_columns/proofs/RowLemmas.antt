@@ -1,7 +1,7 @@
 -- Rows that may be missing, as flags and columns.
-use Rattle.std.proofs.Common.{◌≡◌, ◌≢◌, ℕ, zero, suc, ◌+◌, ◌<◌, ◌≤◌, Bool, true, false, List, [], ◌∷◌, ◌++◌, length, map, take, Option, Some, None, refl, ap, sym, ◌∙◌, subst, inl, inr, arith, length-append}
+use Rattle.std.proofs.Common.{◌≡◌, ◌≢◌, ℕ, zero, suc, ◌+◌, ◌<◌, ◌≤◌, Bool, true, false, List, [], ◌∷◌, ◌++◌, length, map, take, Option, Some, None, refl, ap, sym, ◌∙◌, subst, inr, arith, length-append}
 use Rattle.std.specs.Prelude.{slice_get, slice_set, is_some, Result, Ok, Err, OnOk, OnErr}
-use Rattle.std.proofs.lemmas.List.{map-append, length-take, take_all, append_assoc, take-append-le}
+use Rattle.std.proofs.lemmas.List.{map-append, length-take, take_all, append_assoc}
 use Rattle.dk_rows.proofs.RowLemmas.{take_more, taken_back}
 use Rattle.dk_values.specs.declared.value.ColType.{ColType}
 use Rattle.dk_values.specs.declared.value.Value.{Value}

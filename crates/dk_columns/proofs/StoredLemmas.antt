@@ -1,10 +1,10 @@
 -- Values as they are kept.
-use Rattle.std.proofs.Common.{◌≡◌, ℕ, zero, suc, List, [], ◌∷◌, ◌++◌, map, take, Some, ap, sym, ◌∙◌, subst, arith}
-use Rattle.std.specs.Prelude.{slice_get, slice_set, option_map, Result, Ok, Err, OnOk, OnErr}
+use Rattle.std.proofs.Common.{◌≡◌, ℕ, zero, suc, List, [], ◌∷◌, ◌++◌, map, take, Some, refl, ap, sym, ◌∙◌, subst, arith}
+use Rattle.std.specs.Prelude.{slice_get, slice_set, replicate, option_map, Result, Ok, Err, OnOk, OnErr}
 use Rattle.std.specs.List.{All}
 use Rattle.std.proofs.lemmas.Option.{slice_get-map, slice_get_within, get_or_from_slice_get}
 use Rattle.std.proofs.lemmas.List.{map-append, map-set, take-map}
-use Rattle.std.proofs.lemmas.List.Elements.{All-append, All-set, All-take}
+use Rattle.std.proofs.lemmas.List.Elements.{All-append, All-replicate, All-set, All-take}
 
 module _ {A B : Type 0} where
   -- the value of an item at its place
@@ -18,6 +18,23 @@ module _ {A B : Type 0} where
   pub mapped_set : {E : Type 0} (r : Result (Unit {0}) E) (f : A → B) (xs xs' : List A) (i : ℕ) (x : A) (y : B) → OnOk r (xs' ≡ slice_set xs i x) → f x ≡ y → OnOk r (map f xs' ≡ slice_set (map f xs) i y)
   mapped_set (Ok u) f xs xs' i x y e same = ap (map f) e ∙ map-set f xs i x ∙ ap (λ (z : B). slice_set (map f xs) i z) same
   mapped_set (Err u) f xs xs' i x y e same = tt
+
+  pub mapped_copies : {E : Type 0} (r : Result (Unit {0}) E) (f : A → B) (xs xs' : List A) (x : A) (y : B) (n : ℕ) → OnOk r (xs' ≡ xs ++ replicate n x) → f x ≡ y → OnOk r (map f xs' ≡ map f xs ++ replicate n y)
+  mapped_copies (Ok u) f xs xs' x y n e same = ap (map f) e ∙ map-append f xs (replicate n x) ∙ ap (λ (zs : List B). map f xs ++ zs) (map_replicate f n x ∙ ap (λ (z : B). replicate n z) same)
+    where
+      map_replicate : (f : A → B) (n : ℕ) (x : A) → map f (replicate n x) ≡ replicate n (f x)
+      map_replicate f zero x = refl
+      map_replicate f (suc n) x = ap (λ (zs : List B). f x ∷ zs) (map_replicate f n x)
+  mapped_copies (Err u) f xs xs' x y n e same = tt
+
+  pub mapped_twice : {C : Type 0} (f : A → B) (g : B → C) (xs : List A) → map g (map f xs) ≡ map (λ x. g (f x)) xs
+  mapped_twice {C = C} f g [] = refl
+  mapped_twice {C = C} f g (x ∷ xs) = ap (λ (zs : List C). g (f x) ∷ zs) (mapped_twice f g xs)
+
+  pub all_mapped : (P : B → Type 0) (f : A → B) (xs : List A) → All (λ x. P (f x)) xs → All P (map f xs)
+  all_mapped P f [] h i d lt = absurd (omega (arith, lt))
+  all_mapped P f (x ∷ xs) h zero d lt = h 0 x (omega arith)
+  all_mapped P f (x ∷ xs) h (suc i) d lt = all_mapped P f xs (λ k e le. h (suc k) e (omega (arith, le))) i d (omega (arith, lt))
 
   pub mapped_same : {E : Type 0} (r : Result (Unit {0}) E) (f : A → B) (xs xs' : List A) → OnErr r (xs' ≡ xs) → OnErr r (map f xs' ≡ map f xs)
   mapped_same (Ok u) f xs xs' e = tt
@@ -34,6 +51,10 @@ module _ {A : Type 0} (P : A → Type 0) where
   pub all_more : {E : Type 0} (r : Result (Unit {0}) E) (xs xs' : List A) (x : A) → All P xs → P x → OnOk r (xs' ≡ xs ++ x ∷ []) → OnErr r (xs' ≡ xs) → All P xs'
   all_more (Ok u) xs xs' x h p e f = subst (λ (ys : List A). All P ys) (sym e) (All-append P xs (x ∷ []) h (all_one x p))
   all_more (Err u) xs xs' x h p e f = subst (λ (ys : List A). All P ys) (sym f) h
+
+  pub all_copies : {E : Type 0} (r : Result (Unit {0}) E) (xs xs' : List A) (x : A) (n : ℕ) → All P xs → P x → OnOk r (xs' ≡ xs ++ replicate n x) → OnErr r (xs' ≡ xs) → All P xs'
+  all_copies (Ok u) xs xs' x n h p e f = subst (λ (ys : List A). All P ys) (sym e) (All-append P xs (replicate n x) h (All-replicate P n x p))
+  all_copies (Err u) xs xs' x n h p e f = subst (λ (ys : List A). All P ys) (sym f) h
 
   pub all_set : {E : Type 0} (r : Result (Unit {0}) E) (xs xs' : List A) (i : ℕ) (x : A) → All P xs → P x → OnOk r (xs' ≡ slice_set xs i x) → OnErr r (xs' ≡ xs) → All P xs'
   all_set (Ok u) xs xs' i x h p e f = subst (λ (ys : List A). All P ys) (sym e) (All-set P xs i x p h)

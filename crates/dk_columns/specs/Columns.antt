@@ -19,6 +19,10 @@ IsOfKind types.Big (values.Big number) = ⊤
 IsOfKind types.Text (values.Text text) = ⊤
 IsOfKind kind value = ⊥
 
+-- a column of the type without values
+abbrev pub no_values : ColType → Column
+no_values kind = record { kind = kind; values = [] }
+
 -- a value more at the end
 abbrev pub with_value : Value → Column → Column
 with_value value column = record { kind = column.kind; values = column.values ++ value ∷ [] }

@@ -1,9 +1,9 @@
 //! A column of values of one type.
-ghost use Rattle.std.specs.Prelude.{◌≡◌, ◌<◌, ◌∷◌, ◌++◌, ◌↔◌, [], Some, length, map, option_map, is_some, slice_get, slice_set, take, IsTrue, IfSome, IfNone, IfOk, OnOk, OnErr};
+ghost use Rattle.std.specs.Prelude.{◌≡◌, ◌<◌, ◌∷◌, ◌++◌, ◌↔◌, [], Some, length, map, option_map, is_some, slice_get, slice_set, take, replicate, IsTrue, IfSome, IfNone, IfOk, OnOk, OnErr};
 ghost use Rattle.std.specs.List.{All};
 ghost use Rattle.dk_values.specs.declared.value.ColType.TheVariants.{Text as text_type};
 ghost use Rattle.dk_rows.specs.Cells.{value_of};
-ghost use Rattle.dk_columns.specs.Columns.{IsOfKind, with_value, with_values, with_set, with_front, is_present, number_of};
+ghost use Rattle.dk_columns.specs.Columns.{IsOfKind, no_values, with_value, with_values, with_set, with_front, is_present, number_of};
 ghost use Rattle.dk_columns.specs.Stored.{number_value, text_value, values_in, IsNumber, IsNumeric, IsStored};
 
 use crate::mask::Mask;
@@ -93,6 +93,44 @@ impl Cells {
         ensures err { OnErr result (self.new ≡ self.old) }
     {
         push_stored(self.kind, &mut self.storage, cell)
+    }
+
+    /// Adds so many copies of a value at the end.
+    pub fn push_copies(&mut self, cell: &Cell<'_>, count: usize) -> Result<(), OutOfMemory>
+        requires { IsOfKind self.old.kind (value_of cell.now) }
+        ensures ok { OnOk result (self.new ≡ with_values (replicate count (value_of cell.now)) self.old) }
+        ensures err { OnErr result (self.new ≡ self.old) }
+    {
+        push_stored_copies(self.kind, &mut self.storage, cell, count)
+    }
+
+    /// Removes all values, and keeps their memory.
+    pub fn clear(&mut self)
+        ensures { self.new ≡ no_values self.old.kind }
+    {
+        clear_stored(self.kind, &mut self.storage);
+    }
+
+    /// Removes all values of a type of truth or numbers, and gives the memory of their words away.
+    pub fn take_numbers(&mut self) -> Vec<i64>
+        requires { IsNumeric self.old.kind }
+        ensures buffer { result.items ≡ [] }
+        ensures cells { self.new ≡ no_values self.old.kind }
+    {
+        take_stored(self.kind, &mut self.storage)
+    }
+
+    /// Has the values of these words, none of them null, in place of those before.
+    #[tactic(auto, using(crate::proofs::StoredLemmas::mapped_twice, crate::proofs::StoredLemmas::all_mapped))]
+    pub fn put_numbers(&mut self, numbers: Vec<i64>)
+        requires numeric { IsNumeric self.old.kind }
+        requires numbers { All (λ number. IsNumber self.old.kind (Some number)) numbers.items }
+        ensures { self.new ≡ record {
+          kind = self.old.kind;
+          values = map (λ number. number_value self.old.kind (Some number)) numbers.items;
+        } }
+    {
+        self.storage = Storage::Numbers(Numbers::from_vec(numbers));
     }
 
     /// Puts a value in the place of the i-th. A text takes time linear in the texts.
@@ -335,6 +373,52 @@ fn push_stored(kind: ColType, storage: &mut Storage, cell: &Cell<'_>) -> Result<
     match storage {
         Storage::Numbers(numbers) => numbers.push(number_to_keep(kind, cell)),
         Storage::Texts(texts) => texts.push(text_to_keep(cell)),
+    }
+}
+
+/// Adds so many copies of a value at the end.
+fn push_stored_copies(
+    kind: ColType,
+    storage: &mut Storage,
+    cell: &Cell<'_>,
+    count: usize,
+) -> Result<(), OutOfMemory>
+    requires stored { IsStored kind storage.old }
+    requires kind { IsOfKind kind (value_of cell.now) }
+    ensures stored { IsStored kind storage.new }
+    ensures ok { OnOk result (values_in kind storage.new
+        ≡ values_in kind storage.old ++ replicate count (value_of cell.now)) }
+    ensures err { OnErr result (values_in kind storage.new ≡ values_in kind storage.old) }
+{
+    match storage {
+        Storage::Numbers(numbers) => numbers.push_copies(number_to_keep(kind, cell), count),
+        Storage::Texts(texts) => texts.push_copies(text_to_keep(cell), count),
+    }
+}
+
+/// Removes all values.
+fn clear_stored(kind: ColType, storage: &mut Storage)
+    requires { IsStored kind storage.old }
+    ensures stored { IsStored kind storage.new }
+    ensures values { values_in kind storage.new ≡ [] }
+{
+    match storage {
+        Storage::Numbers(numbers) => numbers.clear(),
+        Storage::Texts(texts) => texts.clear(),
+    }
+}
+
+/// Removes all values, and gives the memory of their words away.
+fn take_stored(kind: ColType, storage: &mut Storage) -> Vec<i64>
+    requires numeric { IsNumeric kind }
+    requires stored { IsStored kind storage.old }
+    ensures buffer { result.items ≡ [] }
+    ensures stored { IsStored kind storage.new }
+    ensures values { values_in kind storage.new ≡ [] }
+{
+    match storage {
+        Storage::Numbers(numbers) => numbers.take_buffer(),
+        Storage::Texts(_) => unreachable!(),
     }
 }
 

@@ -11,8 +11,6 @@ pub mod mask;
 pub mod numbers;
 pub mod option_row;
 pub mod option_rows;
-#[cfg(test)]
-mod row_tests;
 pub mod shared_cells;
 #[cfg(test)]
 mod tests;

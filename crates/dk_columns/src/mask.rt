@@ -95,6 +95,46 @@ impl Mask {
         Ok(())
     }
 
+    /// Adds so many copies of a flag at the end. Only one that is not set may take memory.
+    #[tactic(auto, using(dk_rows::proofs::RowLemmas::taken_back, crate::proofs::CopyLemmas::one_more))]
+    pub fn push_copies(&mut self, set: bool, count: usize) -> Result<(), OutOfMemory>
+        ensures ok { OnOk result (self.new ≡ self.old ++ replicate count set) }
+        ensures err { OnErr result (self.new ≡ self.old) }
+    {
+        if set {
+            return self.push_set(count);
+        }
+        let before = self.len();
+        'copies: for _ in 0..count {
+            if let Err(lack) = self.push(false) {
+                self.truncate(before);
+                return Err(lack);
+            }
+        }
+        Ok(())
+    }
+
+    /// Adds so many flags that are set at the end. They take no memory.
+    fn push_set(&mut self, count: usize) -> Result<(), OutOfMemory>
+        ensures ok { OnOk result (self.new ≡ self.old ++ replicate count true) }
+        ensures err { OnErr result (self.new ≡ self.old) }
+    {
+        let Some(len) = self.len.checked_add(count) else {
+            return Err(OutOfMemory);
+        };
+        self.len = len;
+        Ok(())
+    }
+
+    /// Removes all flags, and keeps the memory of their words.
+    #[tactic(auto, using(crate::proofs::MaskLemmas::no_words))]
+    pub fn clear(&mut self)
+        ensures { self.new ≡ [] }
+    {
+        self.words.clear();
+        self.len = 0;
+    }
+
     /// Puts a flag in the place of the i-th. Only one that is not set may take memory.
     pub fn set(&mut self, i: usize, set: bool) -> Result<(), OutOfMemory>
         requires { i < length self.old }

@@ -1,5 +1,5 @@
 //! Numbers that may be missing.
-ghost use Rattle.std.specs.Prelude.{◌≡◌, ◌<◌, ◌∷◌, ◌++◌, [], Some, length, map, is_some, slice_get, slice_set, take, OnOk, OnErr};
+ghost use Rattle.std.specs.Prelude.{◌≡◌, ◌<◌, ◌∷◌, ◌++◌, [], Some, length, map, is_some, slice_get, slice_set, take, replicate, OnOk, OnErr};
 ghost use Rattle.dk_columns.specs.Options.{options, option_if, Stands, AllStand, number_or_zero};
 
 use crate::mask::Mask;
@@ -36,6 +36,15 @@ impl Numbers {
         }
     }
 
+    /// These numbers, none of them missing.
+    #[tactic(auto, using(crate::proofs::OptionsLemmas::all_there, crate::proofs::OptionsLemmas::all_stand))]
+    pub fn from_vec(numbers: Vec<i64>) -> Numbers
+        ensures { result ≡ map Some numbers.items }
+    {
+        let present = Mask::all(*numbers.allocator(), numbers.len());
+        Numbers { numbers, present }
+    }
+
     pub fn len(&self) -> usize
         ensures { result ≡ length self.now }
     {
@@ -68,6 +77,33 @@ impl Numbers {
         ensures err { OnErr result (self.new ≡ self.old) }
     {
         push_both(&mut self.numbers, &mut self.present, number)
+    }
+
+    /// Adds so many copies of a number, or of none, at the end.
+    pub fn push_copies(&mut self, number: Option<i64>, count: usize) -> Result<(), OutOfMemory>
+        ensures ok { OnOk result (self.new ≡ self.old ++ replicate count number) }
+        ensures err { OnErr result (self.new ≡ self.old) }
+    {
+        push_both_copies(&mut self.numbers, &mut self.present, number, count)
+    }
+
+    /// Removes all numbers, and keeps their memory.
+    pub fn clear(&mut self)
+        ensures { self.new ≡ [] }
+    {
+        self.numbers.clear();
+        self.present.clear();
+    }
+
+    /// Removes all numbers, and gives their memory away.
+    pub fn take_buffer(&mut self) -> Vec<i64>
+        ensures buffer { result.items ≡ [] }
+        ensures numbers { self.new ≡ [] }
+    {
+        self.numbers.clear();
+        self.present.clear();
+        let alloc = *self.numbers.allocator();
+        std::mem::replace(&mut self.numbers, Vec::new(alloc))
     }
 
     /// Puts a number, or none, in the place of the i-th.
@@ -135,6 +171,42 @@ fn push_both(
             Err(lack)
         }
     }
+}
+
+/// Adds so many copies of a number and of its flag, or nothing.
+fn push_both_copies(
+    numbers: &mut Vec<i64>,
+    present: &mut Mask,
+    number: Option<i64>,
+    count: usize,
+) -> Result<(), OutOfMemory>
+    requires { AllStand present.old numbers.old.items }
+    ensures stand { AllStand present.new numbers.new.items }
+    ensures ok { OnOk result (options present.new numbers.new.items
+        ≡ options present.old numbers.old.items ++ replicate count number) }
+    ensures err { OnErr result (options present.new numbers.new.items ≡ options present.old numbers.old.items) }
+{
+    let before = numbers.len();
+    push_number_copies(numbers, kept_number(number), count)?;
+    match present.push_copies(number.is_some(), count) {
+        Ok(()) => Ok(()),
+        Err(lack) => {
+            numbers.truncate(before);
+            Err(lack)
+        }
+    }
+}
+
+/// Adds so many copies of a number.
+fn push_number_copies(numbers: &mut Vec<i64>, number: i64, count: usize) -> Result<(), OutOfMemory>
+    ensures ok { OnOk result (numbers.new.items ≡ numbers.old.items ++ replicate count number) }
+    ensures err { OnErr result (numbers.new.items ≡ numbers.old.items) }
+{
+    let Some(len) = numbers.len().checked_add(count) else {
+        return Err(OutOfMemory);
+    };
+    numbers.resize(len, number)?;
+    Ok(())
 }
 
 /// Puts a number and its flag in the place of the i-th, or neither.

@@ -1,25 +1,29 @@
-ghost use Rattle.std.specs.Prelude.{◌≡◌, ◌<◌, length};
+//! That columns, flags and rows that may be missing stay those of plain lists, whatever changes them.
+mod cells;
+mod flags;
+mod rows;
+
+ghost use Rattle.std.specs.Prelude.{◌<◌};
 ghost use Rattle.dk_rows.specs.Cells.{value_of};
 ghost use Rattle.dk_columns.specs.Columns.{IsOfKind};
 
-use crate::{Cells, Mask};
 use dk_rows::Cell;
-use dk_values::{ColType, List, OutOfMemory, TryCopy, Value};
+use dk_values::{ColType, OutOfMemory};
 use std::alloc::Global;
 use std::test::Fail;
 
 /// Numbers that look random, from a linear congruence.
 #[derive(Drop)]
-pub(crate) struct Draws {
+struct Draws {
     state: u64,
 }
 
 impl Draws {
-    pub(crate) fn new(state: u64) -> Draws {
+    fn new(state: u64) -> Draws {
         Draws { state }
     }
 
-    pub(crate) fn below(&mut self, n: u64) -> u64
+    fn below(&mut self, n: u64) -> u64
         requires { 0 < n }
         ensures { result < n }
     {
@@ -34,7 +38,7 @@ impl Draws {
 const LETTERS: &[u8] = b"abcdefgh";
 
 /// A value that a column of that type may have.
-pub(crate) fn draw_cell(draws: &mut Draws, kind: ColType) -> Cell<'static>
+fn draw_cell(draws: &mut Draws, kind: ColType) -> Cell<'static>
     ensures { IsOfKind kind (value_of result) }
 {
     if draws.below(4) == 0 {
@@ -48,107 +52,59 @@ pub(crate) fn draw_cell(draws: &mut Draws, kind: ColType) -> Cell<'static>
     }
 }
 
-fn truncated(values: List<Value>, n: usize) -> List<Value> {
-    let mut values = values.into_vec();
-    values.truncate(n);
-    List::from_vec(values)
+/// What is changed beside a plain list.
+#[derive(Clone, Copy)]
+enum Subject {
+    Column(ColType),
+    Flags,
+    Rows,
 }
 
-/// The same change of the column and of the plain list.
-fn change(
+/// Whether a sequence of changes leaves the subject and the plain list the same.
+fn sequence_agrees(
     alloc: Global,
     draws: &mut Draws,
-    cells: &mut Cells,
-    plain: List<Value>,
-) -> Result<List<Value>, OutOfMemory>
-    ensures { cells.new.kind ≡ cells.old.kind }
-{
-    let mut plain = plain;
-    let cell = draw_cell(draws, cells.kind());
-    let n = draws.below(80) as usize;
-    match draws.below(8) {
-        0 => {
-            cells.truncate(n);
-            return Ok(truncated(plain, n));
-        }
-        1 => {
-            let more = cells.copy()?;
-            cells.append(&more)?;
-            plain.append(plain.copy()?)?;
-        }
-        2 | 3 => {
-            if n < cells.len() && n < plain.len() {
-                cells.set(n, &cell)?;
-                plain.set(n, cell.to_value(alloc)?);
-            }
-        }
-        _ => {
-            cells.push(&cell)?;
-            plain.push(cell.to_value(alloc)?)?;
-        }
+    subject: Subject,
+) -> Result<bool, OutOfMemory> {
+    match subject {
+        Subject::Column(kind) => cells::sequence_agrees(alloc, draws, kind),
+        Subject::Flags => flags::sequence_agrees(alloc, draws),
+        Subject::Rows => rows::sequence_agrees(alloc, draws),
     }
-    Ok(plain)
 }
 
-fn sequence_agrees(alloc: Global, draws: &mut Draws, kind: ColType) -> Result<bool, OutOfMemory> {
-    let mut cells = Cells::new(alloc, kind);
-    let mut plain = List::new(alloc);
-    for _ in 0..draws.below(20) {
-        plain = change(alloc, draws, &mut cells, plain)?;
-    }
-    Ok(cells.to_values(alloc)? == plain)
-}
-
-fn disagreements(alloc: Global, sequences: u32, kind: ColType) -> Result<u32, OutOfMemory> {
-    let mut draws = Draws::new(11);
-    let mut failed = 0;
+/// Whether so many sequences do.
+fn all_agree(
+    alloc: Global,
+    subject: Subject,
+    sequences: u32,
+    seed: u64,
+) -> Result<bool, OutOfMemory> {
+    let mut draws = Draws::new(seed);
     for _ in 0..sequences {
-        if !sequence_agrees(alloc, &mut draws, kind)? {
-            failed = 1;
+        if !sequence_agrees(alloc, &mut draws, subject)? {
+            return Ok(false);
         }
     }
-    Ok(failed)
+    Ok(true)
 }
 
 #[test]
-fn two_thousand_sequences_of_changes_are_those_of_a_plain_list(
-    rt: HostRuntime,
-) -> Result<(), Fail> {
-    let alloc = rt.alloc();
+fn two_thousand_sequences_are_those_of_a_plain_list_of_values(rt: HostRuntime) -> Result<(), Fail> {
     for kind in [ColType::Bool, ColType::Int, ColType::Big, ColType::Text] {
-        assert_eq!(rt; disagreements(alloc, 500, kind)?, 0);
+        assert!(rt; all_agree(rt.alloc(), Subject::Column(kind), 500, 11)?);
     }
     Ok(())
 }
 
-/// How many of so many flags are set, where each third one, or each one, or none is cleared and then some are cut.
-fn set_flags(alloc: Global, len: usize, every: usize, cut: usize) -> Result<usize, OutOfMemory> {
-    let mut mask = Mask::all(alloc, len);
-    for i in 0..mask.len() {
-        if i < mask.len() && every > 0 && i % every == 0 {
-            mask.set(i, false)?;
-        }
-    }
-    mask.truncate(cut);
-    let mut count = 0;
-    for i in 0..mask.len() {
-        if mask.get(i) && count < usize::MAX {
-            count += 1;
-        }
-    }
-    Ok(count)
+#[test]
+fn two_thousand_sequences_are_those_of_a_plain_list_of_rows(rt: HostRuntime) -> Result<(), Fail> {
+    assert!(rt; all_agree(rt.alloc(), Subject::Rows, 2_000, 23)?);
+    Ok(())
 }
 
 #[test]
-fn flags_are_kept_at_the_ends_of_words(rt: HostRuntime) -> Result<(), Fail> {
-    let alloc = rt.alloc();
-    for len in [0, 1, 63, 64, 65, 2_048, 122_880] {
-        assert_eq!(rt; set_flags(alloc, len, 0, len)?, len);
-        assert_eq!(rt; set_flags(alloc, len, 1, len)?, 0);
-        assert_eq!(rt; set_flags(alloc, len, 2, len)?, len / 2);
-    }
-    assert_eq!(rt; set_flags(alloc, 130, 2, 65)?, 32);
-    assert_eq!(rt; set_flags(alloc, 130, 2, 64)?, 32);
-    assert_eq!(rt; set_flags(alloc, 130, 2, 63)?, 31);
+fn two_thousand_sequences_are_those_of_plain_flags(rt: HostRuntime) -> Result<(), Fail> {
+    assert!(rt; all_agree(rt.alloc(), Subject::Flags, 2_000, 5)?);
     Ok(())
 }

@@ -1,5 +1,5 @@
 //! Texts that may be missing.
-ghost use Rattle.std.specs.Prelude.{◌≡◌, ◌<◌, ◌∷◌, ◌++◌, [], Some, length, map, is_some, option_map, slice_get, slice_set, take, IfOk, OnOk, OnErr};
+ghost use Rattle.std.specs.Prelude.{◌≡◌, ◌<◌, ◌∷◌, ◌++◌, [], Some, length, map, is_some, option_map, slice_get, slice_set, take, replicate, IfOk, OnOk, OnErr};
 ghost use Rattle.dk_columns.specs.Options.{options, option_if};
 
 use crate::mask::Mask;
@@ -65,6 +65,31 @@ impl TextCells {
         ensures err { OnErr result (self.new ≡ self.old) }
     {
         push_both(&mut self.texts, &mut self.present, text)
+    }
+
+    /// Adds so many copies of a text, or of none, at the end.
+    #[tactic(auto, using(dk_rows::proofs::RowLemmas::taken_back, crate::proofs::CopyLemmas::one_more))]
+    pub fn push_copies(&mut self, text: Option<&[u8]>, count: usize) -> Result<(), OutOfMemory>
+        ensures ok { OnOk result (self.new
+            ≡ self.old ++ replicate count (option_map (λ text. text.now) text.entry)) }
+        ensures err { OnErr result (self.new ≡ self.old) }
+    {
+        let before = self.len();
+        'copies: for _ in 0..count {
+            if let Err(lack) = self.push(text) {
+                self.truncate(before);
+                return Err(lack);
+            }
+        }
+        Ok(())
+    }
+
+    /// Removes all texts, and keeps their memory.
+    pub fn clear(&mut self)
+        ensures { self.new ≡ [] }
+    {
+        self.texts.truncate(0);
+        self.present.clear();
     }
 
     /// Puts a text, or none, in the place of the i-th. It takes time linear in the texts.

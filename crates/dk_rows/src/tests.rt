@@ -1,3 +1,4 @@
+//! That rows in a few buffers stay those of a plain list, whatever changes them, and texts of each length.
 ghost use Rattle.std.specs.Prelude.{◌<◌};
 
 use crate::{Cell, Rows};
@@ -54,45 +55,56 @@ fn draw_row(alloc: Global, draws: &mut Draws) -> Result<Row, OutOfMemory> {
     Ok(row)
 }
 
-fn truncated(rows: List<Row>, n: usize) -> List<Row> {
-    let mut rows = rows.into_vec();
+/// The front of both.
+fn cut(rows: &mut Rows, plain: List<Row>, n: usize) -> List<Row> {
     rows.truncate(n);
-    List::from_vec(rows)
+    let mut plain = plain.into_vec();
+    plain.truncate(n);
+    List::from_vec(plain)
 }
 
-/// The same change of the rows and of the plain list.
+/// Both twice, one behind the other.
+fn double(rows: &mut Rows, mut plain: List<Row>) -> Result<List<Row>, OutOfMemory> {
+    rows.append(rows.copy()?)?;
+    plain.append(plain.copy()?)?;
+    Ok(plain)
+}
+
+/// The first row of the rows once more behind both, where there is one.
+fn repeat_first(
+    alloc: Global,
+    rows: &mut Rows,
+    mut plain: List<Row>,
+) -> Result<List<Row>, OutOfMemory> {
+    let mut more = Rows::new(alloc);
+    if !rows.is_empty() {
+        more.push_copy(&rows.get(0))?;
+    }
+    plain.append(more.to_list(alloc)?)?;
+    rows.append(more)?;
+    Ok(plain)
+}
+
+/// The same row at the end of both.
+fn push(rows: &mut Rows, mut plain: List<Row>, row: Row) -> Result<List<Row>, OutOfMemory> {
+    plain.push(row.copy()?)?;
+    rows.push(row)?;
+    Ok(plain)
+}
+
+/// The same change of both.
 fn change(
     alloc: Global,
     draws: &mut Draws,
     rows: &mut Rows,
     plain: List<Row>,
 ) -> Result<List<Row>, OutOfMemory> {
-    let mut plain = plain;
     match draws.below(8) {
-        0 => {
-            let n = draws.below(12) as usize;
-            rows.truncate(n);
-            return Ok(truncated(plain, n));
-        }
-        1 => {
-            rows.append(rows.copy()?)?;
-            plain.append(plain.copy()?)?;
-        }
-        2 => {
-            let mut more = Rows::new(alloc);
-            if !rows.is_empty() {
-                more.push_copy(&rows.get(0))?;
-            }
-            plain.append(more.to_list(alloc)?)?;
-            rows.append(more)?;
-        }
-        _ => {
-            let row = draw_row(alloc, draws)?;
-            plain.push(row.copy()?)?;
-            rows.push(row)?;
-        }
+        0 => Ok(cut(rows, plain, draws.below(12) as usize)),
+        1 => double(rows, plain),
+        2 => repeat_first(alloc, rows, plain),
+        _ => push(rows, plain, draw_row(alloc, draws)?),
     }
-    Ok(plain)
 }
 
 fn agree(alloc: Global, rows: &Rows, plain: &List<Row>) -> Result<bool, OutOfMemory> {
@@ -116,22 +128,22 @@ fn sequence_agrees(alloc: Global, draws: &mut Draws) -> Result<bool, OutOfMemory
     agree(alloc, &rows, &plain)
 }
 
-fn disagreements(alloc: Global, sequences: u32) -> Result<u32, OutOfMemory> {
+/// Whether so many sequences of changes leave the rows and a plain list the same.
+fn all_agree(alloc: Global, sequences: u32) -> Result<bool, OutOfMemory> {
     let mut draws = Draws { state: 7 };
-    let mut failed = 0;
     for _ in 0..sequences {
         if !sequence_agrees(alloc, &mut draws)? {
-            failed = 1;
+            return Ok(false);
         }
     }
-    Ok(failed)
+    Ok(true)
 }
 
 #[test]
 fn two_thousand_sequences_of_changes_are_those_of_a_plain_list(
     rt: HostRuntime,
 ) -> Result<(), Fail> {
-    assert_eq!(rt; disagreements(rt.alloc(), 2_000)?, 0);
+    assert!(rt; all_agree(rt.alloc(), 2_000)?);
     Ok(())
 }
 

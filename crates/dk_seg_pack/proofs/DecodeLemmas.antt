@@ -1,6 +1,6 @@
 -- Exactly the bodies are read, each as its values.
-use Rattle.std.proofs.Common.{◌≡◌, ℕ, zero, suc, ◌+◌, ◌-◌, ◌*◌, ◌<◌, ◌≤◌, ◌^◌, Bool, true, false, ◌||◌, ◌&&◌, ◌==◌, not, cond, ltb, fold, max, map, List, [], ◌∷◌, ◌++◌, length, take, Option, Some, None, Result, Ok, Err, refl, ap, sym, ◌∙◌, subst, arith, append-nil, append_assoc}
-use Rattle.dk_bytes.proofs.BodyLemmas.{IsCodec}
+use Rattle.std.proofs.Common.{◌≡◌, ℕ, ◌+◌, ◌-◌, ◌*◌, ◌<◌, ◌≤◌, ◌^◌, Bool, true, false, ◌||◌, ◌&&◌, ◌==◌, not, cond, ltb, fold, max, map, List, [], ◌∷◌, ◌++◌, length, Option, Some, None, Ok, Err, refl, ap, sym, ◌∙◌, subst, arith, append-nil, append_assoc}
+use Rattle.dk_bytes.specs.Bodies.{IsCodec}
 use Rattle.dk_bytes.proofs.PackingLemmas.{found_packed, packed_again}
 use Rattle.std.specs.List.{AllByRecursion}
 use Rattle.std.specs.Int.{w8, w64, to_le_bytes}
@@ -8,10 +8,10 @@ use Rattle.std.proofs.lemmas.Bool.{eq-eqb, eqb-true, ne_eqb, le-ltb, and_parts, 
 use Rattle.dk_values.specs.declared.value.ColType.{ColType}
 use Rattle.dk_values.specs.declared.value.ColType.TheVariants as types
 use Rattle.dk_values.specs.declared.value.Value.{Value}
-use Rattle.dk_bytes.specs.Fields.{IsBytes, Place, behind, bytes_at, number_at}
+use Rattle.dk_bytes.specs.Fields.{IsBytes, Place, bytes_at, number_at}
 use Rattle.dk_bytes.specs.Reading.{◌>>=◌, start, whole, or_fault, IsBody}
 use Rattle.dk_bytes.specs.PlainValue.{IsPlain}
-use Rattle.dk_bytes.proofs.NumberLemmas.{IsBytes-take, Takes, Takes-then, bind_ok, bind_at, guard_ok, low_byte, wide8, wide64, bytes_takes, bytes_again, number_takes, number_again, done, ok_is, bytes_front, fault_none, passed_ok, some_items}
+use Rattle.dk_bytes.proofs.NumberLemmas.{Takes, Takes-then, bind_ok, bind_at, guard_ok, low_byte, wide8, wide64, bytes_takes, bytes_again, number_takes, number_again, done, ok_is, bytes_front, fault_none, passed_ok, some_items}
 use Rattle.dk_bytes.proofs.OutcomeLemmas.{whole_at, whole_ok}
 use Rattle.dk_bytes.specs.Bits.{bit_width, byte_count, packed, numbers_in}
 use Rattle.dk_seg_pack.specs.Packed.{rank_of, least, greatest, width_of, differences, half_turned, packed_bytes, IsNumeric, IsPacked, is_numeric, values_of, values_above, differences_at, numbers_at, packed_at}

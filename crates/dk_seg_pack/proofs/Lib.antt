@@ -3,3 +3,4 @@ pub mod RankLemmas
 pub mod RoundTripLemmas
 pub mod DecodeLemmas
 pub mod PackedFaultLemmas
+pub mod AboveLemmas

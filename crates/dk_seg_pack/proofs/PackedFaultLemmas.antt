@@ -1,11 +1,11 @@
 -- A fault of a body of packed numbers stands at most at the body's length.
-use Rattle.std.proofs.Common.{◌≡◌, ℕ, ◌+◌, ◌*◌, ◌≤◌, ◌||◌, ◌==◌, not, ltb, cond, List, length, Option, Some, None, Result, Ok, Err, arith}
+use Rattle.std.proofs.Common.{ℕ, ◌*◌, ◌≤◌, ◌||◌, ◌==◌, not, ltb, cond, List, length, Ok, Err, arith}
 use Rattle.std.specs.Int.{w8, w64}
 use Rattle.dk_values.specs.declared.value.ColType.{ColType}
 use Rattle.dk_values.specs.declared.value.Value.{Value}
 use Rattle.dk_bytes.specs.Fields.{Place, bytes_at, number_at}
-use Rattle.dk_bytes.specs.Reading.{◌>>=◌, start, whole, or_fault}
-use Rattle.dk_bytes.proofs.FaultPlaceLemmas.{end_of, Bounded, FailsBy, Within, Inside, bind_bounded, guard_bounded, bytes_within, number_within, whole_bounded, fault_bounded}
+use Rattle.dk_bytes.specs.Reading.{start, whole, or_fault}
+use Rattle.dk_bytes.proofs.FaultPlaceLemmas.{end_of, FailsBy, Within, Inside, bind_bounded, guard_bounded, bytes_within, number_within, whole_bounded, fault_bounded}
 use Rattle.dk_bytes.specs.Bits.{byte_count, numbers_in}
 use Rattle.dk_seg_pack.specs.Packed.{is_numeric, half_turned, values_of, differences_at, numbers_at, packed_at}
 

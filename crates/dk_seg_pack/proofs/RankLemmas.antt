@@ -59,7 +59,7 @@ low_number r h = rw (lt-ltb r (2 ^ 63) h) refl
 high_number : (r : ℕ) → 2 ^ 63 ≤ r → number_of_rank r ≡ pos (r - 2 ^ 63)
 high_number r h = rw (le-ltb r (2 ^ 63) h) refl
 
-number_fits : (r : ℕ) → r < 2 ^ 64 → FitsSigned w64 (number_of_rank r) × (rank (number_of_rank r) ≡ r)
+pub number_fits : (r : ℕ) → r < 2 ^ 64 → FitsSigned w64 (number_of_rank r) × (rank (number_of_rank r) ≡ r)
 number_fits r h =
     let P : ℤ → Type 0 = λ z. FitsSigned w64 z × (rank z ≡ r) in
     elim (cases_lt r (2 ^ 63)) [
@@ -67,7 +67,7 @@ number_fits r h =
       | inr le ↦ subst P (sym (high_number r le)) (record { sfits = omega arith }, omega arith)
     ]
 
-int_fits : (r : ℕ) → 2 ^ 63 - 2 ^ 31 ≤ r → r < 2 ^ 63 + 2 ^ 31 → FitsSigned w32 (number_of_rank r) × (rank (number_of_rank r) ≡ r)
+pub int_fits : (r : ℕ) → 2 ^ 63 - 2 ^ 31 ≤ r → r < 2 ^ 63 + 2 ^ 31 → FitsSigned w32 (number_of_rank r) × (rank (number_of_rank r) ≡ r)
 int_fits r h k =
     let P : ℤ → Type 0 = λ z. FitsSigned w32 z × (rank z ≡ r) in
     elim (cases_lt r (2 ^ 63)) [

@@ -1,18 +1,11 @@
 -- What was written is read again, and what was read is what is written.
-use Rattle.dk_bytes.specs.Fields.{IsBytes}
-use Rattle.dk_bytes.proofs.NumberLemmas.{chosen}
-use Rattle.std.proofs.Common.{◌≡◌, ℕ, suc, ◌+◌, ◌-◌, ◌*◌, ◌/◌, ◌%◌, ◌<◌, ◌≤◌, ◌^◌, Bool, true, false, ◌||◌, ◌==◌, min, max, fold, map, List, [], ◌∷◌, length, Option, Some, None, refl, ap, sym, ◌∙◌, subst, arith, inl, inr, ◌⊎◌}
+use Rattle.std.proofs.Common.{◌≡◌, ℕ, ◌+◌, ◌-◌, ◌<◌, ◌≤◌, ◌^◌, Bool, true, false, ◌||◌, ◌==◌, min, max, fold, map, List, [], ◌∷◌, length, Option, Some, None, refl, ap, sym, ◌∙◌, subst, arith, inl, inr, ◌⊎◌}
 use Rattle.std.specs.List.{AllByRecursion, list_any}
-use Rattle.std.specs.Simd.Lanes.{number_l as number, digits_l as digits}
-use Rattle.std.proofs.Math.Nat.{pow-le-pow_right, mod-eq_of_lt, div-eq_of_lt}
 use Rattle.std.proofs.lemmas.Bool.{eq-eqb, eqb-true, or_cases, cases_lt}
-use Rattle.std.proofs.lemmas.Nat.{div-add-mod'}
 use Rattle.dk_values.specs.declared.value.ColType.{ColType}
 use Rattle.dk_values.specs.declared.value.Value.{Value}
 use Rattle.dk_bytes.specs.PlainValue.{IsPlain}
-use Rattle.dk_bytes.specs.Bits.{byte_count, packed, unpacked, numbers_in}
 use Rattle.dk_seg_pack.specs.Packed.{rank_of, value_of_rank, least, greatest, differences, with_value, values_above, IsNumeric}
-use Rattle.dk_bytes.proofs.DigitLemmas.{length-digits, number-digits, digits-number, number_below}
 use Rattle.dk_seg_pack.proofs.RankLemmas.{rank_below, value_again, value_taken}
 
 -- the test whether one is 0

@@ -10,6 +10,7 @@ use Rattle.dk_bytes.specs.Fields.{Place, bytes_at, number_at}
 use Rattle.dk_bytes.specs.PlainValue.{IsPlain, bit_byte}
 use Rattle.dk_bytes.specs.Reading.{◌>>=◌, start, whole, or_fault}
 use Rattle.dk_bytes.specs.Bits.{bit_width, byte_count, packed, numbers_in}
+use Rattle.dk_seg_body.specs.Grammar.{Grammar}
 
 -- how far a number stands above the least one of 64 bits
 abbrev pub rank : ℤ → ℕ
@@ -110,3 +111,6 @@ is_numeric kind = true
 unfoldable pub packed_at : ColType → ℕ → List ℕ → Result (List Value) ℕ
 packed_at kind count bytes =
     if (count == 0) || not (is_numeric kind) then Err 0 else whole (numbers_at kind count (start bytes))
+
+abbrev pub packed_grammar : Grammar
+packed_grammar = record { Is = IsPacked; spell = packed_bytes; at = packed_at }

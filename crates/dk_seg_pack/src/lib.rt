@@ -1,8 +1,8 @@
 //! Bodies of column segments whose values are numbers of few bits above the least one.
 //!
-//! `packed` is the encoding: `size` is the body's length, `encode` appends the body, and `decode` reads it again and
-//! refuses all else with the place of the first fault. Values that are null are passed over. Stands on `dk_bytes` for
-//! fields, plain values and packed numbers, and on `dk_values`.
+//! `Packed` is the encoding. Its numbers are read in one pass, which finds the least and the greatest one too. Stands on
+//! `dk_seg_body` for what an encoding is, on `dk_bytes` for fields, plain values and packed numbers, on `dk_columns` and
+//! on `dk_values`.
 #![tactic(auto)]
 
 pub mod packed;

@@ -1,19 +1,21 @@
 //! The body has the least value, a width, and in so many bits each what the values stand above the least one; nulls are
 //! passed over.
 
-ghost use Rattle.std.specs.Prelude.{◌≡◌, ◌++◌, ◌↔◌, ◌≤◌, ◌<◌, ◌^◌, ◌+◌, ◌-◌, ◌*◌, ◌==◌, ◌&&◌, List, length, take, Ok, map, option_map, not, IsSome, IsTrue, IfSome, IfOk, OnOk, OnErr};
-ghost use Rattle.dk_values.specs.declared.value.Value.{Value};
+ghost use Rattle.std.specs.Prelude.{◌≡◌, ◌++◌, ◌↔◌, ◌≤◌, ◌<◌, ◌^◌, ◌+◌, ◌-◌, ◌*◌, ◌/◌, ◌==◌, ◌&&◌, true, [], length, take, map, IsTrue, IfOk, OnOk};
+ghost use Rattle.std.specs.Simd.Lanes.{number_l as number};
 ghost use Rattle.dk_bytes.specs.PlainValue.{present};
-ghost use Rattle.dk_bytes.specs.Reading.{Gives, IsBody};
-ghost use Rattle.dk_bytes.specs.Bits.{bit_width};
-ghost use Rattle.std.specs.List.{list_any};
-ghost use Rattle.dk_seg_pack.specs.Packed.{value_of_rank, rank_of, least, greatest, differences, width_of, body_of, packed_bytes, IsPacked, is_numeric, values_above, values_of, differences_at, numbers_at, packed_at};
+ghost use Rattle.dk_bytes.specs.Reading.{Gives};
+ghost use Rattle.dk_bytes.specs.Bits.{bit_width, unpacked};
+ghost use Rattle.dk_seg_pack.specs.Packed.{rank_of, least, greatest, width_of, packed_bytes, IsPacked, is_numeric, differences_at, numbers_at};
+ghost use Rattle.dk_seg_pack.specs.Above.{IsAbove, may_stand};
 
-use crate::rank::{half_turned, rank_of, value_of_rank};
+use crate::rank::{are_ranks, half_turned, number_above, rank_of};
 use dk_bytes::{
-    Cursor, SegError, are_plain, bit_width, byte_count, cut_if_failed, is_present, pack,
-    present_count, put_u8, put_u64, take_packed, unpack,
+    Cursor, SegError, are_plain, bit_width, byte_count, cut_if_failed, is_present, is_zero_behind,
+    pack, packed_number, present_count, put_u8, put_u64, take_packed,
 };
+use dk_columns::Cells;
+use dk_seg_body::Body;
 use dk_values::{ColType, OutOfMemory, Value};
 use std::alloc::Global;
 
@@ -24,6 +26,44 @@ struct Frame {
     base: u64,
     /// How many bits each difference has.
     width: u32,
+}
+
+/// Numbers of few bits above the least one.
+pub struct Packed;
+
+impl Body for Packed {
+    ghost use Rattle.dk_seg_pack.specs.Packed.{packed_grammar};
+
+    ghost grammar = { packed_grammar };
+
+    #[tactic(auto, using(crate::proofs::BodyLemmas::packed_len))]
+    fn size(values: &[Value], kind: ColType) -> Option<usize> {
+        if !is_packed(values, kind) {
+            return None;
+        }
+        Some(9 + byte_count(width_of(values), present_count(values)) as usize)
+    }
+
+    fn encode(values: &[Value], kind: ColType, out: &mut Vec<u8>) -> Result<(), OutOfMemory> {
+        let start = out.len();
+        let put = put_body(values, out);
+        cut_if_failed(out, start, put)
+    }
+
+    #[tactic(auto, unfolding(crate::specs::Packed::packed_at))]
+    fn fill(alloc: Global, bytes: &[u8], count: usize, cells: &mut Cells) -> Result<(), SegError> {
+        if count == 0 || !is_numeric(cells.kind()) {
+            return Err(SegError::Malformed { at: 0 });
+        }
+        let mut cursor = Cursor::new(bytes);
+        read_numbers(&mut cursor, count, cells)?;
+        cursor.finish()?;
+        Ok(())
+    }
+
+    fn read(alloc: Global, bytes: &[u8], count: usize, cells: &mut Cells) -> Result<(), SegError> {
+        Self::fill(alloc, bytes, count, cells)
+    }
 }
 
 /// Whether the values of the type are numbers.
@@ -74,29 +114,6 @@ fn width_of(values: &[Value]) -> u32
     bit_width(greatest(values).saturating_sub(least(values)))
 }
 
-/// How long the body of these values is, if they are numbers of the type.
-#[tactic(auto, using(crate::proofs::BodyLemmas::packed_len))]
-pub fn size(values: &[Value], kind: ColType) -> Option<usize>
-    ensures held { IsSome result ↔ IsPacked kind (present values.now) }
-    ensures length { IfSome result (λ n. n ≡ length (packed_bytes (present values.now))) }
-{
-    if !is_packed(values, kind) {
-        return None;
-    }
-    Some(9 + byte_count(width_of(values), present_count(values)) as usize)
-}
-
-/// Appends the body.
-pub fn encode(values: &[Value], kind: ColType, out: &mut Vec<u8>) -> Result<(), OutOfMemory>
-    requires { IsPacked kind (present values.now) }
-    ensures ok { OnOk result (out.new.items ≡ out.old.items ++ packed_bytes (present values.now)) }
-    ensures err { OnErr result (out.new.items ≡ out.old.items) }
-{
-    let start = out.len();
-    let put = put_body(values, out);
-    cut_if_failed(out, start, put)
-}
-
 /// Appends the body. Without memory a part of it may have been appended.
 fn put_body(values: &[Value], out: &mut Vec<u8>) -> Result<(), OutOfMemory>
     ensures ok { OnOk result (out.new.items ≡ out.old.items ++ packed_bytes (present values.now)) }
@@ -121,44 +138,25 @@ fn differences(alloc: Global, values: &[Value], base: u64) -> Result<Vec<u64>, O
         .collect(alloc)
 }
 
-/// The `count` values that a body stands for.
-pub fn decode(
-    alloc: Global,
-    bytes: &[u8],
-    kind: ColType,
-    count: usize,
-) -> Result<Vec<Value>, SegError>
-    ensures found { IfOk result (λ v. IsBody (IsPacked kind) packed_bytes count bytes.now v.items) }
-    ensures only { (values : List Value) → IsBody (IsPacked kind) packed_bytes count bytes.now values
-        → Gives (λ v. v.items) result (Ok values) }
-    ensures place { Gives (λ v. v.items) result (packed_at kind count bytes.now) }
-{
-    read(alloc, bytes, kind, count)
+/// The numbers that packed differences stand for above a frame's least rank, and what is to be known of all of them.
+#[derive(Drop)]
+struct Above {
+    numbers: Vec<i64>,
+    /// The least difference, and the greatest one.
+    least: u64,
+    greatest: u64,
+    /// Whether no bit behind the differences is 1.
+    is_ended: bool,
 }
 
-/// The values, or the first fault.
-#[tactic(auto, unfolding(crate::specs::Packed::packed_at))]
-fn read(alloc: Global, bytes: &[u8], kind: ColType, count: usize) -> Result<Vec<Value>, SegError>
-    ensures { Gives (λ v. v.items) result (packed_at kind count bytes.now) }
-{
-    if count == 0 || !is_numeric(kind) {
-        return Err(SegError::Malformed { at: 0 });
-    }
-    let mut cursor = Cursor::new(bytes);
-    let values = read_numbers(alloc, &mut cursor, kind, count)?;
-    cursor.finish()?;
-    Ok(values)
-}
-
-/// The least number, the width and the differences, as values.
+/// The least number, the width and the differences, as values of the column.
 #[tactic(auto, unfolding(crate::specs::Packed::numbers_at))]
-fn read_numbers(
-    alloc: Global,
-    cursor: &mut Cursor,
-    kind: ColType,
-    count: usize,
-) -> Result<Vec<Value>, SegError>
-    ensures { Gives (λ v. (v.items, cursor.new)) result (numbers_at kind count cursor.old) }
+fn read_numbers(cursor: &mut Cursor, count: usize, cells: &mut Cells) -> Result<(), SegError>
+    requires numeric { is_numeric cells.old.kind ≡ true }
+    requires none { cells.old.values ≡ [] }
+    ensures kind { cells.new.kind ≡ cells.old.kind }
+    ensures values { Gives (λ _. (cells.new.values, cursor.new)) result
+        (numbers_at cells.old.kind count cursor.old) }
 {
     let base = cursor.u64()?;
     let at = cursor.at();
@@ -170,91 +168,72 @@ fn read_numbers(
         base: half_turned(base),
         width: width as u32,
     };
-    read_differences(alloc, cursor, kind, count, frame)
+    read_differences(cursor, count, frame, cells)
 }
 
-/// The differences to the frame's least rank, as values.
+/// The differences to the frame's least rank, as values of the column.
 #[tactic(auto, unfolding(crate::specs::Packed::differences_at))]
 fn read_differences(
-    alloc: Global,
     cursor: &mut Cursor,
-    kind: ColType,
     count: usize,
     frame: Frame,
-) -> Result<Vec<Value>, SegError>
-    requires { frame.width ≤ 64 }
-    ensures { Gives (λ v. (v.items, cursor.new)) result
-        (differences_at kind count frame.base frame.width cursor.old) }
+    cells: &mut Cells,
+) -> Result<(), SegError>
+    requires width { frame.width ≤ 64 }
+    requires numeric { is_numeric cells.old.kind ≡ true }
+    requires none { cells.old.values ≡ [] }
+    ensures kind { cells.new.kind ≡ cells.old.kind }
+    ensures values { Gives (λ _. (cells.new.values, cursor.new)) result
+        (differences_at cells.old.kind count frame.base frame.width cursor.old) }
 {
     let at = cursor.at();
     let bytes = take_packed(cursor, frame.width, count)?;
-    let differences = unpack(alloc, bytes, frame.width, count)?;
-    match values_of(alloc, kind, frame.base, frame.width, &differences)? {
-        Some(values) => Ok(values),
-        None => Err(SegError::Malformed { at }),
+    let above = unpack_above(cells.take_numbers(), bytes, frame, count)?;
+    if !may_stand(cells.kind(), frame, &above) {
+        return Err(SegError::Malformed { at });
     }
+    cells.put_numbers(above.numbers);
+    Ok(())
 }
 
-/// The values that the differences stand for, if a body may have those.
-fn values_of(
-    alloc: Global,
-    kind: ColType,
-    base: u64,
-    width: u32,
-    differences: &Option<Vec<u64>>,
-) -> Result<Option<Vec<Value>>, OutOfMemory>
-    ensures { IfOk result (λ values. option_map (λ v. v.items) values
-        ≡ values_of kind base width (option_map (λ v. v.items) differences.now)) }
+/// The numbers that packed differences stand for, put into a buffer that is empty.
+fn unpack_above(
+    buffer: Vec<i64>,
+    bytes: &[u8],
+    frame: Frame,
+    count: usize,
+) -> Result<Above, OutOfMemory>
+    requires none { buffer.items ≡ [] }
+    requires width { frame.width ≤ 64 }
+    requires within { frame.width * count ≤ 8 * length bytes.now }
+    ensures { IfOk result (λ above. IsAbove frame.base (unpacked frame.width count bytes.now) above
+        × (above.is_ended ≡ (number 256 bytes.now / 2 ^ (frame.width * count) == 0))) }
 {
-    match differences {
-        Some(ds) if fit(ds, width) => values_above(alloc, kind, base, ds),
-        _ => Ok(None),
+    let mut numbers = buffer;
+    let mut least = u64::MAX;
+    let mut greatest = 0u64;
+    numbers.reserve(count)?;
+    'numbers: for i in 0..count {
+        let difference = packed_number(bytes, frame.width, i);
+        numbers.push(number_above(frame.base, difference))?;
+        least = least.min(difference);
+        greatest = greatest.max(difference);
     }
+    let is_ended = is_zero_behind(bytes, frame.width, count);
+    Ok(Above {
+        numbers,
+        least,
+        greatest,
+        is_ended,
+    })
 }
 
-/// Whether one is 0 and the greatest is of that width and no less.
-fn fit(differences: &[u64], width: u32) -> bool
-    ensures { result ≡ list_any (λ d. d == 0) differences.now && (bit_width (greatest differences.now) == width) }
+/// Whether a body may have these differences: one is 0, the width is that of the greatest, and all stand for values.
+fn may_stand(kind: ColType, frame: Frame, above: &Above) -> bool
+    ensures { result ≡ may_stand kind frame.base frame.width above.now }
 {
-    has_zero(differences) && bit_width(greatest_of(differences)) == width
-}
-
-/// Whether one difference is 0.
-fn has_zero(differences: &[u64]) -> bool
-    ensures { result ≡ list_any (λ d. d == 0) differences.now }
-{
-    differences.iter().any(|d| *d == 0)
-}
-
-/// The greatest difference.
-fn greatest_of(differences: &[u64]) -> u64
-    ensures { result ≡ greatest differences.now }
-{
-    differences.iter().fold(0, |greatest, d| greatest.max(*d))
-}
-
-/// The value of the type so far above that rank.
-fn value_above(kind: ColType, base: u64, difference: u64) -> Option<Value>
-    ensures { result ≡ value_of_rank kind (base + difference) }
-{
-    value_of_rank(kind, base.checked_add(difference)?)
-}
-
-/// The values so far above that rank, if all are of the type.
-fn values_above(
-    alloc: Global,
-    kind: ColType,
-    base: u64,
-    differences: &[u64],
-) -> Result<Option<Vec<Value>>, OutOfMemory>
-    ensures { IfOk result (λ values. option_map (λ v. v.items) values ≡ values_above kind base differences.now) }
-{
-    let mut values = Vec::with_capacity(alloc, differences.len())?;
-    for difference in differences {
-        match value_above(kind, base, *difference) {
-            Some(value) => values.push(value)?,
-            None => return Ok(None),
-        }
-    }
-    Ok(Some(values))
+    above.is_ended
+        && above.least == 0
+        && bit_width(above.greatest) == frame.width
+        && are_ranks(kind, frame.base, above.greatest)
 }

@@ -1,6 +1,7 @@
 //! The rank of a value: how far its number stands above the least one of 64 bits.
-ghost use Rattle.std.specs.Prelude.{◌≡◌};
-ghost use Rattle.dk_seg_pack.specs.Packed.{rank, number_of_rank, rank_of, value_of_rank, half_turned};
+ghost use Rattle.std.specs.Prelude.{◌≡◌, ◌+◌, nat_lt};
+ghost use Rattle.dk_seg_pack.specs.Packed.{rank, number_of_rank, rank_of, half_turned};
+ghost use Rattle.dk_seg_pack.specs.Above.{number_above, first_rank, end_rank, are_ranks};
 
 use dk_values::{ColType, Value};
 
@@ -33,37 +34,44 @@ fn number_of_rank(rank: u64) -> i64
     rank.wrapping_sub(ZERO).cast_signed()
 }
 
-/// The value of the type whose number has that rank.
-pub(crate) fn value_of_rank(kind: ColType, rank: u64) -> Option<Value>
-    ensures { result ≡ value_of_rank kind rank }
+/// The number of the rank so far above the least one.
+pub(crate) fn number_above(base: u64, difference: u64) -> i64
+    ensures { result ≡ number_above base difference }
+{
+    number_of_rank(base.wrapping_add(difference))
+}
+
+/// The least rank of a value of the type.
+fn first_rank(kind: ColType) -> u64
+    ensures { result ≡ first_rank kind }
 {
     match kind {
-        ColType::Bool => bool_of_rank(rank),
-        ColType::Int => int_of_rank(rank),
-        ColType::Big => Some(Value::Big(number_of_rank(rank))),
-        ColType::Text => None,
+        ColType::Bool => ZERO,
+        ColType::Int => ZERO - (1 << 31),
+        ColType::Big | ColType::Text => 0,
     }
 }
 
-/// The truth value of that rank.
-fn bool_of_rank(rank: u64) -> Option<Value>
-    ensures { result ≡ value_of_rank ColType.Bool rank }
+/// Whether a rank lies below the least one above all values of the type.
+fn is_before_end(kind: ColType, rank: u64) -> bool
+    ensures { result ≡ nat_lt rank (end_rank kind) }
 {
-    match rank {
-        ZERO => Some(Value::Bool(false)),
-        0x8000_0000_0000_0001 => Some(Value::Bool(true)),
-        _ => None,
+    match kind {
+        ColType::Bool => rank < ZERO + 2,
+        ColType::Int => rank < ZERO + (1 << 31),
+        ColType::Big => true,
+        ColType::Text => false,
     }
 }
 
-/// The number of 32 bits of that rank.
-fn int_of_rank(rank: u64) -> Option<Value>
-    ensures { result ≡ value_of_rank ColType.Int rank }
+/// Whether all ranks from the least one to so far above it are those of values of the type.
+#[tactic(auto, using(crate::proofs::AboveLemmas::too_high))]
+pub(crate) fn are_ranks(kind: ColType, base: u64, greatest: u64) -> bool
+    ensures { result ≡ are_ranks kind base (base + greatest) }
 {
-    if ZERO - (1 << 31) <= rank && rank < ZERO + (1 << 31) {
-        Some(Value::Int(number_of_rank(rank) as i32))
-    } else {
-        None
+    match base.checked_add(greatest) {
+        Some(top) => first_rank(kind) <= base && is_before_end(kind, top),
+        None => false,
     }
 }
 

@@ -1,6 +1,7 @@
 //! Packed numbers and bodies that are spelled out, and the place of the first fault of others.
-use super::*;
+use crate::packed::Packed;
 use dk_bytes::SegError;
+use dk_seg_body::{Body, decode};
 use dk_values::{ColType, Value};
 use std::alloc::Global;
 use std::process::Abort;
@@ -14,10 +15,10 @@ fn check(
     bytes: &[u8],
 ) -> Result<(), Fail> {
     let mut out = Vec::new(alloc);
-    assert_eq!(rt; packed::size(values, kind), Some(bytes.len()));
-    packed::encode(values, kind, &mut out)?;
+    assert_eq!(rt; Packed::size(values, kind), Some(bytes.len()));
+    Packed::encode(values, kind, &mut out)?;
     assert_eq!(rt; out.as_slice(), bytes);
-    let back = packed::decode(alloc, bytes, kind, values.len())?;
+    let back = decode::<Packed>(alloc, bytes, kind, values.len())?;
     assert!(rt; back.as_slice() == values);
     Ok(())
 }
@@ -85,7 +86,7 @@ fn wide_bodies(rt: HostRuntime) -> Result<(), Fail> {
 }
 
 fn fault(alloc: Global, kind: ColType, count: usize, bytes: &[u8]) -> Option<u64> {
-    match packed::decode(alloc, bytes, kind, count) {
+    match decode::<Packed>(alloc, bytes, kind, count) {
         Err(SegError::Malformed { at }) => Some(at),
         _ => None,
     }

@@ -9,7 +9,7 @@ use Rattle.dk_bytes.specs.Reading.{start, whole, IsBody}
 use Rattle.dk_bytes.specs.PlainValue.{plain_bytes, value_at}
 use Rattle.dk_bytes.proofs.NumberLemmas.{bind_ok, ok_is}
 use Rattle.dk_bytes.proofs.PlainValueLemmas.{value_takes, value_again, after}
-use Rattle.dk_bytes.proofs.BodyLemmas.{IsCodec}
+use Rattle.dk_bytes.specs.Bodies.{IsCodec}
 use Rattle.dk_bytes.proofs.OutcomeLemmas.{whole_ok, whole_at}
 use Rattle.dk_seg_run.specs.Constant.{IsConstant, constant_bytes, constant_at}
 

@@ -1,4 +1,3 @@
-pub mod CopyLemmas
 pub mod RunLemmas
 pub mod RunBodyLemmas
 pub mod RunLoopLemmas

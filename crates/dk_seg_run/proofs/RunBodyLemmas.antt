@@ -2,7 +2,10 @@
 use Rattle.std.proofs.Common.{◌≡◌, ℕ, zero, suc, ◌+◌, ◌-◌, ◌^◌, ◌<◌, Bool, true, false, cond, eqb, List, [], ◌∷◌, ◌++◌, length, Option, Some, None, Result, Ok, Err, refl, sym, ap, subst, ◌∙◌, append_assoc, arith, replicate}
 use Rattle.std.proofs.lemmas.Bool.Decides.{Decides-eqb}
 use Rattle.std.proofs.lemmas.List.{length-append, length-replicate, append-nil, nil_from_length}
-use Rattle.std.specs.List.{flat_map, AllByRecursion}
+use Rattle.std.specs.List.{flat_map, All, AllByRecursion}
+use Rattle.std.proofs.lemmas.List.Elements.{All-from_recursion}
+use Rattle.dk_columns.specs.Columns.{IsOfKind}
+use Rattle.dk_seg_body.proofs.KindLemmas.{plain_of_kind}
 use Rattle.std.specs.Int.{w16, w32, to_le_bytes}
 use Rattle.dk_values.specs.declared.value.ColType.{ColType}
 use Rattle.dk_values.specs.declared.value.Value.{Value}
@@ -10,7 +13,7 @@ use Rattle.dk_seg_run.specs.declared.run_length.Run.{Run}
 use Rattle.dk_bytes.specs.Fields.{IsBytes, Place, number_at}
 use Rattle.dk_bytes.specs.Reading.{◌>>=◌, start, IsBody}
 use Rattle.dk_bytes.specs.PlainValue.{plain_bytes, value_at}
-use Rattle.dk_bytes.proofs.BodyLemmas.{IsCodec}
+use Rattle.dk_bytes.specs.Bodies.{IsCodec}
 use Rattle.dk_bytes.proofs.NumberLemmas.{Takes, Takes-then, bind_ok, guard_ok, chosen_ok, wide16, wide32, number_takes, number_again, ok_is}
 use Rattle.dk_bytes.proofs.PlainValueLemmas.{value_takes, value_again, after}
 use Rattle.dk_seg_run.specs.RunLength.{run_of, runs_of, expanded, IsRun, HasRuns, run_bytes, run_length_bytes, repeats, counted, run_at, runs_at, closed, run_length_at}
@@ -74,6 +77,15 @@ runs_takes kind last (suc n) p x fits e =
       count = ap suc u.count;
       takes = Takes-then p run.1 d.0.1 (run_bytes run.0) (flat_map run_bytes d.0.0) t.takes u.takes;
     })
+
+kinds_of_runs : (kind : ColType) (last : Option Value) (runs : List Run) → AreRuns kind last runs → AllByRecursion (λ run. IsOfKind kind run.value) runs
+kinds_of_runs kind last [] h = tt
+kinds_of_runs kind last (run ∷ runs) h = (plain_of_kind kind run.value h.0.plain, kinds_of_runs kind (Some run.value) runs h.2)
+
+-- the values of runs that are read are of the type
+pub all_of_kind : (kind : ColType) (last : Option Value) (n : ℕ) (p q : Place) (runs : List Run) → IsBytes p.rest → runs_at kind last n p ≡ Ok (runs, q) → All (λ run. IsOfKind kind run.value) runs
+all_of_kind kind last n p q runs fits e =
+    All-from_recursion (λ run. IsOfKind kind run.value) runs (kinds_of_runs kind last runs (runs_takes kind last n p (runs, q) fits e).fits)
 
 abbrev ok_run : Run × Place → Result (Run × Place) ℕ
 ok_run x = Ok x

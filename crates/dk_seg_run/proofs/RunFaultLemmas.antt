@@ -1,15 +1,15 @@
 -- A fault of a body of one value or of runs stands at most at the body's length.
-use Rattle.std.proofs.Common.{◌≡◌, ℕ, zero, suc, ◌+◌, ◌-◌, ◌≤◌, cond, eqb, List, [], ◌∷◌, length, Option, Some, None, Result, Ok, Err, replicate, arith}
+use Rattle.std.proofs.Common.{ℕ, zero, suc, ◌-◌, ◌≤◌, cond, eqb, List, length, Option, Some, None, Ok, Err, arith}
 use Rattle.std.specs.Int.{w16, w32}
 use Rattle.dk_values.specs.declared.value.ColType.{ColType}
 use Rattle.dk_values.specs.declared.value.Value.{Value}
 use Rattle.dk_bytes.specs.Fields.{Place, number_at}
 use Rattle.dk_bytes.specs.PlainValue.{value_at}
-use Rattle.dk_bytes.specs.Reading.{◌>>=◌, start, whole}
-use Rattle.dk_bytes.proofs.FaultPlaceLemmas.{end_of, Bounded, FailsBy, Within, Inside, bind_bounded, chosen_bounded, guard_bounded, number_within, value_within, whole_bounded}
+use Rattle.dk_bytes.specs.Reading.{start, whole}
+use Rattle.dk_bytes.proofs.FaultPlaceLemmas.{end_of, FailsBy, Within, Inside, bind_bounded, chosen_bounded, guard_bounded, number_within, value_within, whole_bounded}
 use Rattle.dk_seg_run.specs.declared.run_length.Run.{Run}
 use Rattle.dk_seg_run.specs.Constant.{constant_at}
-use Rattle.dk_seg_run.specs.RunLength.{run_of, repeats, counted, expanded, run_at, runs_at, closed, run_length_at}
+use Rattle.dk_seg_run.specs.RunLength.{run_of, repeats, expanded, run_at, runs_at, closed, run_length_at}
 
 pub constant_within : (kind : ColType) (count : ℕ) (bytes : List ℕ) → FailsBy (length bytes) (constant_at kind count bytes)
 unfolding constant_at

@@ -1,7 +1,7 @@
 -- The loops over runs.
 use Rattle.std.specs.Prelude.{slice_get}
 use Rattle.std.proofs.lemmas.List.{length-append}
-use Rattle.std.proofs.Common.{◌≡◌, ℕ, suc, ◌-◌, List, [], ◌∷◌, ◌++◌, length, Some, Result, Ok, Err, refl, sym, ap, subst, ◌∙◌, append_assoc, arith}
+use Rattle.std.proofs.Common.{◌≡◌, ℕ, suc, ◌-◌, List, [], ◌∷◌, ◌++◌, length, Some, Result, Ok, Err, refl, sym, subst, ◌∙◌, arith}
 use Rattle.dk_values.specs.declared.value.ColType.{ColType}
 use Rattle.dk_seg_run.specs.declared.run_length.Run.{Run}
 use Rattle.dk_bytes.specs.Fields.{Place}

@@ -5,6 +5,7 @@ use Rattle.dk_values.specs.declared.value.ColType.{ColType}
 use Rattle.dk_values.specs.declared.value.Value.{Value}
 use Rattle.dk_bytes.specs.PlainValue.{IsPlain, plain_bytes, value_at}
 use Rattle.dk_bytes.specs.Reading.{◌>>=◌, start, whole}
+use Rattle.dk_seg_body.specs.Grammar.{Grammar}
 
 -- at least one value, and all are that one
 abbrev pub IsConstant : ColType → List Value → Type 0
@@ -22,3 +23,6 @@ constant_at kind zero bytes = Err 0
 constant_at kind (suc n) bytes = do
   value ← whole (value_at kind (start bytes))
   Ok (replicate (suc n) value)
+
+abbrev pub constant_grammar : Grammar
+constant_grammar = record { Is = IsConstant; spell = constant_bytes; at = constant_at }

@@ -8,6 +8,7 @@ use Rattle.dk_seg_run.specs.declared.run_length.Run.{Run}
 use Rattle.dk_bytes.specs.Fields.{Place, number_at}
 use Rattle.dk_bytes.specs.PlainValue.{IsPlain, plain_bytes, is_present, same, value_at}
 use Rattle.dk_bytes.specs.Reading.{◌>>=◌, start}
+use Rattle.dk_seg_body.specs.Grammar.{Grammar}
 
 abbrev pub run_values : Run → List Value
 run_values run = replicate run.count run.value
@@ -95,3 +96,6 @@ run_length_at kind count bytes = do
   some ← if n.0 == 0 then Err 0 else Ok n
   runs ← runs_at kind None some.0 some.1
   closed count runs
+
+abbrev pub run_length_grammar : Grammar
+run_length_grammar = record { Is = HasRuns; spell = run_length_bytes; at = run_length_at }

@@ -2,17 +2,20 @@
 //! passed over.
 
 ghost use Rattle.std.specs.Prelude.{◌≡◌, ◌+◌, ◌++◌, ◌<◌, ◌^◌, ◌≤◌, ◌↔◌, ℕ, List, ◌∷◌, Option, None, length, take, drop, Ok, IsSome, IsOk, IsTrue, IfSome, IfOk, OnOk, OnErr, vec_len};
-ghost use Rattle.std.specs.List.{AllByRecursion, flat_map, prefix_len};
+ghost use Rattle.std.specs.List.{All, AllByRecursion, flat_map, prefix_len};
 ghost use Rattle.dk_values.specs.declared.value.Value.{Value};
-ghost use Rattle.dk_bytes.specs.Reading.{Gives, IsBody};
+ghost use Rattle.dk_bytes.specs.Reading.{Gives};
 ghost use Rattle.dk_bytes.specs.PlainValue.{present};
+ghost use Rattle.dk_columns.specs.Columns.{IsOfKind};
 ghost use Rattle.dk_seg_run.specs.RunLength.{passes, IsRun, HasRuns, run_of, runs_of, run_bytes, run_length_bytes, run_length_at, run_at, runs_at, expanded, last_of, repeats};
 
-use crate::copies::push_copies;
 use dk_bytes::{
     Cursor, SegError, cut_if_failed, is_present, is_same, plain_len, present_count, put_u16,
     put_u32, put_value, read_value, split_present,
 };
+use dk_columns::Cells;
+use dk_rows::Cell;
+use dk_seg_body::Body;
 use dk_values::{ColType, OutOfMemory, Value};
 use std::alloc::Global;
 
@@ -21,6 +24,53 @@ use std::alloc::Global;
 pub struct Run {
     pub value: Value,
     pub count: u16,
+}
+
+/// Equal neighbours, gathered.
+pub struct RunLength;
+
+impl Body for RunLength {
+    ghost use Rattle.dk_seg_run.specs.RunLength.{run_length_grammar};
+
+    ghost grammar = { run_length_grammar };
+
+    fn size(values: &[Value], kind: ColType) -> Option<usize> {
+        if present_count(values) == 0 {
+            return None;
+        }
+        let len = runs_len(values, kind)?;
+        Some(4 + len)
+    }
+
+    fn encode(values: &[Value], kind: ColType, out: &mut Vec<u8>) -> Result<(), OutOfMemory> {
+        let start = out.len();
+        let put = put_body(values, kind, out);
+        cut_if_failed(out, start, put)
+    }
+
+    #[tactic(auto, unfolding(crate::specs::RunLength::run_length_at), using(crate::proofs::RunBodyLemmas::all_of_kind))]
+    fn fill(alloc: Global, bytes: &[u8], count: usize, cells: &mut Cells) -> Result<(), SegError> {
+        let mut cursor = Cursor::new(bytes);
+        let run_count = cursor.u32()?;
+        if run_count == 0 {
+            return Err(SegError::Malformed { at: 0 });
+        }
+        // What is left are bytes, and so the values of the runs are of the type.
+        let _left = cursor.left();
+        let runs = read_runs(alloc, &mut cursor, cells.kind(), run_count)?;
+        if total(runs.as_slice()) != count as u64 {
+            return Err(SegError::Malformed {
+                at: cursor.at() - 2,
+            });
+        }
+        cursor.finish()?;
+        expand(runs.as_slice(), cells)?;
+        Ok(())
+    }
+
+    fn read(alloc: Global, bytes: &[u8], count: usize, cells: &mut Cells) -> Result<(), SegError> {
+        Self::fill(alloc, bytes, count, cells)
+    }
 }
 
 /// How many values at the front are null or this one.
@@ -43,18 +93,6 @@ fn split_run<'a>(first: &Value, rest: &'a [Value]) -> (usize, &'a [Value])
 {
     let (front, behind) = rest.split_at(front_len(first, rest));
     (present_count(front) + 1, behind)
-}
-
-/// How long the body of these values is, if it can hold them: a run has at most 65,535 values.
-pub fn size(values: &[Value], kind: ColType) -> Option<usize>
-    ensures held { IsSome result ↔ HasRuns kind (present values.now) }
-    ensures length { IfSome result (λ n. n ≡ length (run_length_bytes (present values.now))) }
-{
-    if present_count(values) == 0 {
-        return None;
-    }
-    let len = runs_len(values, kind)?;
-    Some(4 + len)
 }
 
 /// How long the runs behind their number are.
@@ -94,17 +132,6 @@ fn run_count(values: &[Value]) -> usize
     runs
 }
 
-/// Appends the body.
-pub fn encode(values: &[Value], kind: ColType, out: &mut Vec<u8>) -> Result<(), OutOfMemory>
-    requires { HasRuns kind (present values.now) }
-    ensures ok { OnOk result (out.new.items ≡ out.old.items ++ run_length_bytes (present values.now)) }
-    ensures err { OnErr result (out.new.items ≡ out.old.items) }
-{
-    let start = out.len();
-    let put = put_body(values, kind, out);
-    cut_if_failed(out, start, put)
-}
-
 /// Appends the body. Without memory a part of it may have been appended.
 fn put_body(values: &[Value], kind: ColType, out: &mut Vec<u8>) -> Result<(), OutOfMemory>
     requires { HasRuns kind (present values.now) }
@@ -129,41 +156,6 @@ fn put_runs(values: &[Value], kind: ColType, out: &mut Vec<u8>) -> Result<(), Ou
         left = behind;
     }
     Ok(())
-}
-
-/// The `count` values that a body stands for.
-pub fn decode(
-    alloc: Global,
-    bytes: &[u8],
-    kind: ColType,
-    count: usize,
-) -> Result<Vec<Value>, SegError>
-    ensures found { IfOk result (λ v. IsBody (HasRuns kind) run_length_bytes count bytes.now v.items) }
-    ensures only { (values : List Value) → IsBody (HasRuns kind) run_length_bytes count bytes.now values
-        → Gives (λ v. v.items) result (Ok values) }
-    ensures place { Gives (λ v. v.items) result (run_length_at kind count bytes.now) }
-{
-    read(alloc, bytes, kind, count)
-}
-
-/// The values, or the first fault.
-#[tactic(auto, unfolding(crate::specs::RunLength::run_length_at))]
-fn read(alloc: Global, bytes: &[u8], kind: ColType, count: usize) -> Result<Vec<Value>, SegError>
-    ensures { Gives (λ v. v.items) result (run_length_at kind count bytes.now) }
-{
-    let mut cursor = Cursor::new(bytes);
-    let run_count = cursor.u32()?;
-    if run_count == 0 {
-        return Err(SegError::Malformed { at: 0 });
-    }
-    let runs = read_runs(alloc, &mut cursor, kind, run_count)?;
-    if total(runs.as_slice()) != count as u64 {
-        return Err(SegError::Malformed {
-            at: cursor.at() - 2,
-        });
-    }
-    cursor.finish()?;
-    Ok(expand(alloc, runs.as_slice())?)
 }
 
 /// So many runs, one behind the other.
@@ -231,13 +223,14 @@ fn total(runs: &[Run]) -> u64
     sum
 }
 
-/// The values that the runs stand for.
-fn expand(alloc: Global, runs: &[Run]) -> Result<Vec<Value>, OutOfMemory>
-    ensures { IfOk result (λ v. v.items ≡ expanded runs.now) }
+/// Adds the values that the runs stand for.
+fn expand(runs: &[Run], cells: &mut Cells) -> Result<(), OutOfMemory>
+    requires { All (λ run. IsOfKind cells.old.kind run.value) runs.now }
+    ensures kind { cells.new.kind ≡ cells.old.kind }
+    ensures values { OnOk result (cells.new.values ≡ cells.old.values ++ expanded runs.now) }
 {
-    let mut values = Vec::new(alloc);
     'runs: for run in runs {
-        push_copies(alloc, &mut values, &run.value, run.count as usize)?;
+        cells.push_copies(&Cell::of(&run.value), run.count as usize)?;
     }
-    Ok(values)
+    Ok(())
 }

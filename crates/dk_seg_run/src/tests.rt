@@ -1,6 +1,8 @@
 //! Bodies that are spelled out, read again, and the place of the first fault of each.
-use crate::{constant, run_length};
+use crate::constant::Constant;
+use crate::run_length::RunLength;
 use dk_bytes::SegError;
+use dk_seg_body::{Body, decode};
 use dk_values::{ColType, List, Value};
 use std::test::Fail;
 
@@ -12,18 +14,18 @@ fn text(rt: &impl AllocGlobal, bytes: &[u8]) -> Result<Value, Fail> {
 fn one_value(rt: HostRuntime) -> Result<(), Fail> {
     let values = [Value::Big(5), Value::Big(5), Value::Big(5)];
     let mut out = Vec::new(rt.alloc());
-    assert_eq!(rt; constant::size(&values, ColType::Big), Some(8));
+    assert_eq!(rt; Constant::size(&values, ColType::Big), Some(8));
     assert_eq!(rt;
-        constant::size(&[Value::Big(5), Value::Big(6)], ColType::Big),
+        Constant::size(&[Value::Big(5), Value::Big(6)], ColType::Big),
         None
     );
-    assert_eq!(rt; constant::size(&values, ColType::Int), None);
-    assert_eq!(rt; constant::size(&[], ColType::Big), None);
-    if constant::size(&values, ColType::Big).is_some() {
-        constant::encode(&values, ColType::Big, &mut out)?;
+    assert_eq!(rt; Constant::size(&values, ColType::Int), None);
+    assert_eq!(rt; Constant::size(&[], ColType::Big), None);
+    if Constant::size(&values, ColType::Big).is_some() {
+        Constant::encode(&values, ColType::Big, &mut out)?;
     }
     assert_eq!(rt; out.as_slice(), [5, 0, 0, 0, 0, 0, 0, 0].as_slice());
-    let back = constant::decode(rt.alloc(), &out, ColType::Big, 3)?;
+    let back = decode::<Constant>(rt.alloc(), &out, ColType::Big, 3)?;
     assert_eq!(rt; back.as_slice(), values.as_slice());
     Ok(())
 }
@@ -33,13 +35,13 @@ fn runs(rt: HostRuntime) -> Result<(), Fail> {
     let values = [text(&rt, b"ab")?, text(&rt, b"ab")?, text(&rt, b"")?];
     let body = [2, 0, 0, 0, 2, 0, 97, 98, 2, 0, 0, 0, 1, 0];
     let mut out = Vec::new(rt.alloc());
-    assert_eq!(rt; run_length::size(&values, ColType::Text), Some(14));
-    assert_eq!(rt; run_length::size(&[Value::Null], ColType::Text), None);
-    if run_length::size(&values, ColType::Text).is_some() {
-        run_length::encode(&values, ColType::Text, &mut out)?;
+    assert_eq!(rt; RunLength::size(&values, ColType::Text), Some(14));
+    assert_eq!(rt; RunLength::size(&[Value::Null], ColType::Text), None);
+    if RunLength::size(&values, ColType::Text).is_some() {
+        RunLength::encode(&values, ColType::Text, &mut out)?;
     }
     assert_eq!(rt; out.as_slice(), body.as_slice());
-    let back = run_length::decode(rt.alloc(), &body, ColType::Text, 3)?;
+    let back = decode::<RunLength>(rt.alloc(), &body, ColType::Text, 3)?;
     assert_eq!(rt; back.as_slice(), values.as_slice());
     Ok(())
 }
@@ -57,7 +59,7 @@ fn first_faults(rt: HostRuntime) {
         (&[2, 0, 0, 0, 1, 1, 0, 0, 2, 0, 9], 10),
     ];
     for (bytes, at) in faults {
-        let read = run_length::decode(rt.alloc(), bytes, ColType::Bool, 3);
+        let read = decode::<RunLength>(rt.alloc(), bytes, ColType::Bool, 3);
         assert!(rt; matches!(read, Err(SegError::Malformed { at: place }) if place == at));
     }
 }

@@ -1,5 +1,5 @@
 -- What was read is what is written.
-use Rattle.std.proofs.Common.{◌≡◌, ℕ, zero, suc, ◌+◌, ◌*◌, ◌<◌, ◌≤◌, ◌^◌, ◌==◌, Bool, true, false, cond, ◌||◌, not, ltb, bytes_eq, List, [], ◌∷◌, ◌++◌, map, length, take, get_or, Option, Some, None, Result, Ok, Err, refl, sym, ap, subst, ◌∙◌, append_assoc, append-nil, arith, length-append, inl, inr}
+use Rattle.std.proofs.Common.{◌≡◌, ℕ, zero, suc, ◌+◌, ◌*◌, ◌<◌, ◌≤◌, ◌^◌, ◌==◌, Bool, true, false, cond, ◌||◌, not, ltb, bytes_eq, List, [], ◌∷◌, ◌++◌, map, length, get_or, Option, Some, None, Ok, Err, refl, sym, ap, subst, ◌∙◌, append_assoc, append-nil, arith, length-append, inl, inr}
 use Rattle.dk_bytes.proofs.PackingLemmas.{found_packed}
 use Rattle.std.specs.List.{AllByRecursion, flat_map}
 use Rattle.std.specs.Int.{w8, w16, to_le_bytes}
@@ -10,10 +10,10 @@ use Rattle.dk_values.specs.declared.value.ColType.{ColType}
 use Rattle.dk_values.specs.declared.value.ColType.TheVariants as types
 use Rattle.dk_values.specs.declared.value.Value.{Value}
 use Rattle.dk_values.specs.declared.value.Value.TheVariants as variants
-use Rattle.dk_bytes.specs.Fields.{IsBytes, Place, behind, bytes_at, number_at}
+use Rattle.dk_bytes.specs.Fields.{IsBytes, Place, bytes_at, number_at}
 use Rattle.dk_bytes.specs.Reading.{◌>>=◌, start, whole, or_fault, IsBody}
 use Rattle.dk_bytes.specs.PlainValue.{IsPlain, plain_bytes, text_at}
-use Rattle.dk_bytes.proofs.NumberLemmas.{IsBytes-take, Takes, Takes-then, bind_ok, guard_ok, chosen_ok, low_byte, wide8, wide16, bytes_takes, number_takes, done, ok_is, bytes_front, fault_none, passed_ok, chosen, some_items}
+use Rattle.dk_bytes.proofs.NumberLemmas.{Takes, Takes-then, bind_ok, guard_ok, chosen_ok, low_byte, wide8, wide16, bytes_takes, number_takes, done, ok_is, bytes_front, fault_none, passed_ok, chosen, some_items}
 use Rattle.dk_bytes.proofs.PlainValueLemmas.{value_takes}
 use Rattle.dk_bytes.proofs.OutcomeLemmas.{whole_ok}
 use Rattle.dk_bytes.specs.Bits.{byte_count, numbers_in}

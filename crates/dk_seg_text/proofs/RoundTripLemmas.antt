@@ -1,7 +1,7 @@
 -- What was written is read again.
 use Rattle.std.proofs.Common.{◌≡◌, ℕ, ◌+◌, ◌-◌, ◌*◌, ◌<◌, ◌≤◌, ◌^◌, ◌==◌, Bool, true, false, cond, List, [], ◌∷◌, ◌++◌, map, length, Option, Some, Result, Ok, Err, refl, sym, ap, subst, ◌∙◌, append_assoc, append-nil, arith, length-append}
 use Rattle.dk_seg_text.proofs.DecodeLemmas.{body_taken}
-use Rattle.dk_bytes.proofs.BodyLemmas.{IsCodec}
+use Rattle.dk_bytes.specs.Bodies.{IsCodec}
 use Rattle.dk_bytes.proofs.PackingLemmas.{packed_again}
 use Rattle.std.specs.List.{AllByRecursion, flat_map}
 use Rattle.std.specs.Int.{w8, w16, to_le_bytes}

@@ -1,13 +1,13 @@
 -- A fault of a plain body or of a dictionary stands at most at the body's length.
-use Rattle.std.proofs.Common.{◌≡◌, ℕ, zero, suc, ◌+◌, ◌*◌, ◌≤◌, ◌||◌, ◌==◌, not, cond, eqb, List, [], ◌∷◌, ◌++◌, length, Option, Some, None, Result, Ok, Err, arith}
+use Rattle.std.proofs.Common.{ℕ, zero, suc, ◌*◌, ◌≤◌, ◌||◌, ◌==◌, not, cond, eqb, List, [], ◌∷◌, ◌++◌, length, Ok, Err, arith}
 use Rattle.std.specs.Int.{w8, w16}
 use Rattle.dk_values.specs.declared.value.ColType.{ColType}
 use Rattle.dk_values.specs.declared.value.ColType.TheVariants as types
 use Rattle.dk_values.specs.declared.value.Value.{Value}
 use Rattle.dk_bytes.specs.Fields.{Place, bytes_at, number_at}
 use Rattle.dk_bytes.specs.PlainValue.{text_at, value_at}
-use Rattle.dk_bytes.specs.Reading.{◌>>=◌, start, whole, or_fault}
-use Rattle.dk_bytes.proofs.FaultPlaceLemmas.{end_of, Bounded, FailsBy, Within, Inside, bind_bounded, chosen_bounded, guard_bounded, bytes_within, number_within, value_within, whole_bounded, fault_bounded}
+use Rattle.dk_bytes.specs.Reading.{start, whole, or_fault}
+use Rattle.dk_bytes.proofs.FaultPlaceLemmas.{end_of, FailsBy, Within, Inside, bind_bounded, chosen_bounded, guard_bounded, bytes_within, number_within, value_within, whole_bounded, fault_bounded}
 use Rattle.dk_bytes.specs.Bits.{byte_count, numbers_in}
 use Rattle.dk_seg_text.specs.Plain.{values_at, plain_at}
 use Rattle.dk_seg_text.specs.Dictionary.{text_of, is_entry, code_width, texts_with, entry_at, entries_at, codes_at, width_at, texts_at, is_text, dictionary_at}

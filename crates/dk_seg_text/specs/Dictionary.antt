@@ -10,6 +10,7 @@ use Rattle.dk_bytes.specs.Fields.{Place, bytes_at, number_at}
 use Rattle.dk_bytes.specs.PlainValue.{IsPlain, text_at}
 use Rattle.dk_bytes.specs.Reading.{◌>>=◌, start, whole, or_fault}
 use Rattle.dk_bytes.specs.Bits.{bit_width, byte_count, packed, numbers_in}
+use Rattle.dk_seg_body.specs.Grammar.{Grammar}
 
 abbrev pub text_of : Value → List ℕ
 text_of (values.Text text) = text
@@ -132,3 +133,6 @@ is_text kind = false
 unfoldable pub dictionary_at : ColType → ℕ → List ℕ → Result (List Value) ℕ
 dictionary_at kind count bytes =
     if (count == 0) || not (is_text kind) then Err 0 else whole (texts_at count (start bytes))
+
+abbrev pub dictionary_grammar : Grammar
+dictionary_grammar = record { Is = IsDictionary; spell = dictionary_bytes; at = dictionary_at }

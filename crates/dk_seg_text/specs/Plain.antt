@@ -6,6 +6,7 @@ use Rattle.dk_values.specs.declared.value.Value.{Value}
 use Rattle.dk_bytes.specs.Fields.{Place}
 use Rattle.dk_bytes.specs.PlainValue.{IsPlain, plain_bytes, value_at}
 use Rattle.dk_bytes.specs.Reading.{◌>>=◌, start, whole}
+use Rattle.dk_seg_body.specs.Grammar.{Grammar}
 
 -- the values one behind the other
 abbrev pub plain_body : List Value → List ℕ
@@ -27,3 +28,6 @@ values_at kind (suc n) place = do
 -- so many values that a body stands for, or its first fault
 abbrev pub plain_at : ColType → ℕ → List ℕ → Result (List Value) ℕ
 plain_at kind count bytes = whole (values_at kind count (start bytes))
+
+abbrev pub plain_grammar : Grammar
+plain_grammar = record { Is = ArePlain; spell = plain_body; at = plain_at }

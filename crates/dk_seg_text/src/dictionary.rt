@@ -1,14 +1,14 @@
 //! The body has each different text once, in the order of first use, and for each value the number of its text; nulls
 //! are passed over.
 
-ghost use Rattle.std.specs.Prelude.{◌≡◌, ◌++◌, ◌↔◌, ◌≤◌, ◌<◌, ◌+◌, ◌-◌, ◌^◌, ℕ, List, [], ◌∷◌, ◌*◌, ◌&&◌, ◌||◌, not, Some, None, true, false, length, take, map, option_map, bytes_eq, Ok, IsSome, IsTrue, IfSome, IfOk, OnOk, OnErr};
+ghost use Rattle.std.specs.Prelude.{◌≡◌, ◌++◌, ◌↔◌, ◌≤◌, ◌<◌, ◌+◌, ◌-◌, ◌^◌, ℕ, List, if◌then◌else◌, [], ◌∷◌, ◌*◌, ◌&&◌, ◌||◌, not, Some, None, true, false, length, take, map, option_map, bytes_eq, Ok, IsSome, IsTrue, IfSome, IfOk, OnOk, OnErr};
 ghost use Rattle.std.specs.List.{AllByRecursion, flat_map, list_any};
 ghost use Rattle.dk_bytes.specs.Bits.{packed};
 ghost use Rattle.dk_values.specs.declared.value.Value.{Value};
 ghost use Rattle.dk_values.specs.declared.value.Value.TheVariants as values;
 ghost use Rattle.dk_values.specs.declared.value.ColType.TheVariants as types;
 ghost use Rattle.dk_bytes.specs.PlainValue.{IsPlain, is_present, present, text_at};
-ghost use Rattle.dk_bytes.specs.Reading.{Gives, IsBody};
+ghost use Rattle.dk_bytes.specs.Reading.{Gives};
 ghost use Rattle.dk_seg_text.specs.declared.dictionary.TheConstants.{MAX_ENTRIES};
 ghost use Rattle.dk_seg_text.specs.Dictionary.{text_of, is_entry, entries_of, codes_behind, code_width, entry_bytes, dictionary_bytes, IsDictionary, entry_at, entries_at, used_behind, are_all_used, text_with, texts_with, codes_at, width_at, texts_at, is_text, dictionary_at};
 
@@ -17,11 +17,54 @@ use dk_bytes::{
     Cursor, SegError, are_plain, bit_width, byte_count, cut_if_failed, is_present, pack,
     present_count, put_u8, put_u16, split_present, take_packed, take_text, unpack,
 };
-use dk_values::{ColType, List, OutOfMemory, Value};
+use dk_columns::Cells;
+use dk_rows::Cell;
+use dk_seg_body::Body;
+use dk_values::{ColType, OutOfMemory, Value};
 use std::alloc::Global;
 
 /// The most entries that a body may have.
 const MAX_ENTRIES: usize = 65_535;
+
+/// Each different text once, and for each value the number of its text.
+pub struct Dictionary;
+
+impl Body for Dictionary {
+    ghost use Rattle.dk_seg_text.specs.Dictionary.{dictionary_grammar};
+
+    ghost grammar = { dictionary_grammar };
+
+    /// It takes no memory, and so compares each text with those before it.
+    #[tactic(auto, using(crate::proofs::MeasureLemmas::dictionary_len))]
+    fn size(values: &[Value], kind: ColType) -> Option<usize> {
+        if !has_texts(values, kind) {
+            return None;
+        }
+        let (count, len) = measure(values)?;
+        Some(3 + len + byte_count(code_width(count), present_count(values)) as usize)
+    }
+
+    fn encode(values: &[Value], kind: ColType, out: &mut Vec<u8>) -> Result<(), OutOfMemory> {
+        let start = out.len();
+        let put = put_body(values, out);
+        cut_if_failed(out, start, put)
+    }
+
+    #[tactic(auto, unfolding(crate::specs::Dictionary::dictionary_at))]
+    fn fill(alloc: Global, bytes: &[u8], count: usize, cells: &mut Cells) -> Result<(), SegError> {
+        if count == 0 || !is_text(cells.kind()) {
+            return Err(SegError::Malformed { at: 0 });
+        }
+        let mut cursor = Cursor::new(bytes);
+        read_texts(alloc, &mut cursor, count, cells)?;
+        cursor.finish()?;
+        Ok(())
+    }
+
+    fn read(alloc: Global, bytes: &[u8], count: usize, cells: &mut Cells) -> Result<(), SegError> {
+        Self::fill(alloc, bytes, count, cells)
+    }
+}
 
 /// The bytes of a text, and none of another value.
 fn text_of(value: &Value) -> &[u8]
@@ -49,20 +92,6 @@ fn code_width(entry_count: usize) -> u32
     ensures most { result ≤ 64 }
 {
     bit_width(entry_count.saturating_sub(1) as u64)
-}
-
-/// How long the body of these values is, if they are texts of which at most 65,535 are different. It takes no
-/// memory, and so compares each text with those before it.
-#[tactic(auto, using(crate::proofs::MeasureLemmas::dictionary_len))]
-pub fn size(values: &[Value], kind: ColType) -> Option<usize>
-    ensures held { IsSome result ↔ IsDictionary kind (present values.now) }
-    ensures length { IfSome result (λ n. n ≡ length (dictionary_bytes (present values.now))) }
-{
-    if !has_texts(values, kind) {
-        return None;
-    }
-    let (count, len) = measure(values)?;
-    Some(3 + len + byte_count(code_width(count), present_count(values)) as usize)
 }
 
 /// What `size` answers, in a time that grows with the bytes of the values alone.
@@ -180,17 +209,6 @@ fn with_text(count: usize, len: usize, is_known: bool, text: &[u8]) -> Option<(u
     Some((count + 1, len + (2 + text.len())))
 }
 
-/// Appends the body.
-pub fn encode(values: &[Value], kind: ColType, out: &mut Vec<u8>) -> Result<(), OutOfMemory>
-    requires { IsDictionary kind (present values.now) }
-    ensures ok { OnOk result (out.new.items ≡ out.old.items ++ dictionary_bytes (present values.now)) }
-    ensures err { OnErr result (out.new.items ≡ out.old.items) }
-{
-    let start = out.len();
-    let put = put_body(values, out);
-    cut_if_failed(out, start, put)
-}
-
 /// Appends the body. Without memory a part of it may have been appended.
 fn put_body(values: &[Value], out: &mut Vec<u8>) -> Result<(), OutOfMemory>
     requires plain { AllByRecursion (IsPlain types.Text) (present values.now) }
@@ -277,78 +295,99 @@ fn are_all_used(codes: &[u64], count: usize) -> bool
     used == count as u64
 }
 
-/// The texts of the codes.
-fn texts(alloc: Global, entries: &Entries, codes: &[u64]) -> Result<Vec<Value>, OutOfMemory>
-    ensures { IfOk result (λ v. v.items ≡ map (text_with entries.now) codes.now) }
+/// Adds the texts of the codes.
+fn push_texts(entries: &Entries, codes: &[u64], cells: &mut Cells) -> Result<(), OutOfMemory>
+    requires { cells.old.kind ≡ types.Text }
+    ensures kind { cells.new.kind ≡ cells.old.kind }
+    ensures values { OnOk result (cells.new.values ≡ cells.old.values ++ map (text_with entries.now) codes.now) }
 {
-    let mut values = Vec::with_capacity(alloc, codes.len())?;
     'codes: for code in codes {
-        let text = Vec::from_slice(alloc, entries.get(*code as usize))?;
-        values.push(Value::Text(List::from_vec(text)))?;
+        cells.push(&Cell::Text(entries.get(*code as usize)))?;
     }
-    Ok(values)
+    Ok(())
 }
 
-/// The values that the codes stand for, if a body may have those.
-fn texts_with(
-    alloc: Global,
+/// Adds the values that the codes stand for, if a body may have those, and says whether it may.
+fn push_if_used(
     entries: &Entries,
     codes: &Option<Vec<u64>>,
-) -> Result<Option<Vec<Value>>, OutOfMemory>
-    ensures { IfOk result (λ values. option_map (λ v. v.items) values
-        ≡ texts_with entries.now (option_map (λ v. v.items) codes.now)) }
+    cells: &mut Cells,
+) -> Result<bool, OutOfMemory>
+    requires kind { cells.old.kind ≡ types.Text }
+    requires none { cells.old.values ≡ [] }
+    ensures kind { cells.new.kind ≡ cells.old.kind }
+    ensures values { IfOk result (λ fits. texts_with entries.now (option_map (λ v. v.items) codes.now)
+        ≡ (if fits then Some cells.new.values else None)) }
 {
     match codes {
-        Some(codes) if are_all_used(codes, entries.len()) => Ok(Some(texts(
-            alloc, entries, codes,
-        )?)),
-        _ => Ok(None),
+        Some(codes) if are_all_used(codes, entries.len()) => {
+            push_texts(entries, codes, cells)?;
+            Ok(true)
+        }
+        _ => Ok(false),
     }
 }
 
-/// The codes, as values.
+/// The codes, as values of the column.
 #[tactic(auto, unfolding(crate::specs::Dictionary::codes_at))]
 fn read_codes(
     alloc: Global,
     cursor: &mut Cursor,
     entries: &Entries,
-    width: u32,
     count: usize,
-) -> Result<Vec<Value>, SegError>
-    requires { width ≤ 64 }
-    ensures { Gives (λ v. (v.items, cursor.new)) result (codes_at entries.now width count cursor.old) }
+    cells: &mut Cells,
+) -> Result<(), SegError>
+    requires kind { cells.old.kind ≡ types.Text }
+    requires none { cells.old.values ≡ [] }
+    ensures kind { cells.new.kind ≡ cells.old.kind }
+    ensures values { Gives (λ _. (cells.new.values, cursor.new)) result
+        (codes_at entries.now (code_width (length entries.now)) count cursor.old) }
 {
     let at = cursor.at();
+    let width = code_width(entries.len());
     let bytes = take_packed(cursor, width, count)?;
     let codes = unpack(alloc, bytes, width, count)?;
-    match texts_with(alloc, entries, &codes)? {
-        Some(values) => Ok(values),
-        None => Err(SegError::Malformed { at }),
+    if push_if_used(entries, &codes, cells)? {
+        Ok(())
+    } else {
+        Err(SegError::Malformed { at })
     }
 }
 
-/// The width and the codes, as values.
+/// The width and the codes, as values of the column.
 #[tactic(auto, unfolding(crate::specs::Dictionary::width_at))]
 fn read_width(
     alloc: Global,
     cursor: &mut Cursor,
     entries: &Entries,
     count: usize,
-) -> Result<Vec<Value>, SegError>
-    ensures { Gives (λ v. (v.items, cursor.new)) result (width_at entries.now count cursor.old) }
+    cells: &mut Cells,
+) -> Result<(), SegError>
+    requires kind { cells.old.kind ≡ types.Text }
+    requires none { cells.old.values ≡ [] }
+    ensures kind { cells.new.kind ≡ cells.old.kind }
+    ensures values { Gives (λ _. (cells.new.values, cursor.new)) result (width_at entries.now count cursor.old) }
 {
     let at = cursor.at();
     let width = cursor.u8()? as u32;
     if width != code_width(entries.len()) {
         return Err(SegError::Malformed { at });
     }
-    read_codes(alloc, cursor, entries, width, count)
+    read_codes(alloc, cursor, entries, count, cells)
 }
 
-/// The entries, the width and the codes, as values.
+/// The entries, the width and the codes, as values of the column.
 #[tactic(auto, unfolding(crate::specs::Dictionary::texts_at))]
-fn read_texts(alloc: Global, cursor: &mut Cursor, count: usize) -> Result<Vec<Value>, SegError>
-    ensures { Gives (λ v. (v.items, cursor.new)) result (texts_at count cursor.old) }
+fn read_texts(
+    alloc: Global,
+    cursor: &mut Cursor,
+    count: usize,
+    cells: &mut Cells,
+) -> Result<(), SegError>
+    requires kind { cells.old.kind ≡ types.Text }
+    requires none { cells.old.values ≡ [] }
+    ensures kind { cells.new.kind ≡ cells.old.kind }
+    ensures values { Gives (λ _. (cells.new.values, cursor.new)) result (texts_at count cursor.old) }
 {
     let at = cursor.at();
     let entry_count = cursor.u16()?;
@@ -356,34 +395,5 @@ fn read_texts(alloc: Global, cursor: &mut Cursor, count: usize) -> Result<Vec<Va
         return Err(SegError::Malformed { at });
     }
     let entries = read_entries(alloc, cursor, entry_count)?;
-    read_width(alloc, cursor, &entries, count)
-}
-
-/// The values, or the first fault.
-#[tactic(auto, unfolding(crate::specs::Dictionary::dictionary_at))]
-fn read(alloc: Global, bytes: &[u8], kind: ColType, count: usize) -> Result<Vec<Value>, SegError>
-    ensures { Gives (λ v. v.items) result (dictionary_at kind count bytes.now) }
-{
-    if count == 0 || !is_text(kind) {
-        return Err(SegError::Malformed { at: 0 });
-    }
-    let mut cursor = Cursor::new(bytes);
-    let values = read_texts(alloc, &mut cursor, count)?;
-    cursor.finish()?;
-    Ok(values)
-}
-
-/// The `count` values that a body stands for.
-pub fn decode(
-    alloc: Global,
-    bytes: &[u8],
-    kind: ColType,
-    count: usize,
-) -> Result<Vec<Value>, SegError>
-    ensures found { IfOk result (λ v. IsBody (IsDictionary kind) dictionary_bytes count bytes.now v.items) }
-    ensures only { (values : List Value) → IsBody (IsDictionary kind) dictionary_bytes count bytes.now values
-        → Gives (λ v. v.items) result (Ok values) }
-    ensures place { Gives (λ v. v.items) result (dictionary_at kind count bytes.now) }
-{
-    read(alloc, bytes, kind, count)
+    read_width(alloc, cursor, &entries, count, cells)
 }

@@ -1,6 +1,8 @@
 //! Bodies that are spelled out, read again, and the place of the first fault of each.
-use super::*;
+use crate::dictionary::Dictionary;
+use crate::plain::Plain;
 use dk_bytes::SegError;
+use dk_seg_body::{Body, decode};
 use dk_values::{ColType, List, OutOfMemory, Value};
 use std::alloc::Global;
 use std::process::Abort;
@@ -18,10 +20,10 @@ fn check_plain(
     bytes: &[u8],
 ) -> Result<(), Fail> {
     let mut out = Vec::new(alloc);
-    assert_eq!(rt; plain::size(values, kind), Some(bytes.len()));
-    plain::encode(values, kind, &mut out)?;
+    assert_eq!(rt; Plain::size(values, kind), Some(bytes.len()));
+    Plain::encode(values, kind, &mut out)?;
     assert_eq!(rt; out.as_slice(), bytes);
-    let back = plain::decode(alloc, bytes, kind, values.len())?;
+    let back = decode::<Plain>(alloc, bytes, kind, values.len())?;
     assert!(rt; back.as_slice() == values);
     Ok(())
 }
@@ -39,7 +41,7 @@ fn plain_bodies(rt: HostRuntime) -> Result<(), Fail> {
         &[254, 255, 255, 255],
     )?;
     check_plain(&rt, alloc, ColType::Bool, &[], &[])?;
-    assert_eq!(rt; plain::size(&texts, ColType::Bool), None);
+    assert_eq!(rt; Plain::size(&texts, ColType::Bool), None);
     Ok(())
 }
 
@@ -49,16 +51,16 @@ fn a_dictionary(rt: HostRuntime) -> Result<(), Fail> {
     let texts = [text(alloc, b"a")?, text(alloc, b"b")?, text(alloc, b"a")?];
     let bytes: [u8; 10] = [2, 0, 1, 0, 97, 1, 0, 98, 1, 2];
     let mut out = Vec::new(alloc);
-    assert_eq!(rt; dictionary::size(&texts, ColType::Text), Some(10));
-    dictionary::encode(&texts, ColType::Text, &mut out)?;
+    assert_eq!(rt; Dictionary::size(&texts, ColType::Text), Some(10));
+    Dictionary::encode(&texts, ColType::Text, &mut out)?;
     assert_eq!(rt; out.as_slice(), bytes.as_slice());
-    let back = dictionary::decode(alloc, &bytes, ColType::Text, 3)?;
+    let back = decode::<Dictionary>(alloc, &bytes, ColType::Text, 3)?;
     assert!(rt; back.as_slice() == texts.as_slice());
     Ok(())
 }
 
 fn fault(alloc: Global, count: usize, bytes: &[u8]) -> Option<u64> {
-    match dictionary::decode(alloc, bytes, ColType::Text, count) {
+    match decode::<Dictionary>(alloc, bytes, ColType::Text, count) {
         Err(SegError::Malformed { at }) => Some(at),
         _ => None,
     }

@@ -1,7 +1,6 @@
 -- What holds of the body of every encoding.
-use Rattle.dk_bytes.specs.Fields.{IsBytes}
-use Rattle.std.proofs.Common.{◌≡◌, ℕ, zero, suc, ◌+◌, ◌^◌, ◌<◌, ◌≤◌, Bool, true, false, List, [], ◌∷◌, ◌++◌, length, Result, Ok, Err, refl, sym, ap, subst, ◌∙◌, arith, replicate, cond, eqb}
-use Rattle.std.specs.List.{AllByRecursion, flat_map}
+use Rattle.std.proofs.Common.{◌≡◌, ℕ, zero, suc, ◌<◌, ◌≤◌, true, false, List, [], ◌∷◌, ◌++◌, length, Result, Ok, Err, refl, sym, subst, arith, replicate}
+use Rattle.std.specs.List.{AllByRecursion}
 use Rattle.dk_values.specs.declared.value.ColType.{ColType}
 use Rattle.dk_values.specs.declared.value.ColType.TheVariants as types
 use Rattle.dk_values.specs.declared.value.Value.{Value}
@@ -14,7 +13,7 @@ use Rattle.dk_seg_run.proofs.RunBodyLemmas.{run_length_codec}
 use Rattle.dk_seg_pack.proofs.DecodeLemmas.{packed_codec}
 use Rattle.dk_seg_text.proofs.ValueLemmas.{plain_codec}
 use Rattle.dk_seg_text.proofs.RoundTripLemmas.{dictionary_codec}
-use Rattle.dk_bytes.proofs.BodyLemmas.{IsCodec}
+use Rattle.dk_bytes.specs.Bodies.{IsCodec}
 use Rattle.std.specs.Prelude.{IfErr}
 use Rattle.dk_bytes.specs.declared.field_error.FieldError.{FieldError}
 use Rattle.dk_bytes.specs.declared.field_error.FieldError.TheVariants.{Malformed}

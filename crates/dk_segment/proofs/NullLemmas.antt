@@ -1,5 +1,6 @@
 -- Values with nulls among them.
-use Rattle.std.proofs.Common.{◌≡◌, ℕ, zero, suc, ◌+◌, ◌^◌, ◌<◌, ◌≤◌, Bool, true, false, ◌&&◌, ◌||◌, List, [], ◌∷◌, ◌++◌, length, map, refl, sym, ap, subst, ◌∙◌, arith, cond, eqb, zero-add}
+use Rattle.std.proofs.Common.{◌≡◌, ℕ, zero, suc, ◌+◌, ◌^◌, ◌<◌, Bool, true, false, List, [], ◌∷◌, ◌++◌, length, drop, append_assoc, refl, sym, ap, ◌∙◌, arith, cond, eqb, zero-add}
+use Rattle.std.proofs.lemmas.List.{drop-drop}
 use Rattle.std.proofs.lemmas.List.Sums.{sum_by-cons}
 use Rattle.std.specs.List.{AllByRecursion, list_all, list_any}
 use Rattle.dk_values.specs.declared.value.ColType.{ColType}
@@ -8,7 +9,7 @@ use Rattle.dk_values.specs.declared.value.Value.{Value}
 use Rattle.dk_values.specs.declared.value.Value.TheVariants as cell
 use Rattle.dk_bytes.specs.PlainValue.{IsPlain}
 use Rattle.dk_bytes.specs.RowFields.{IsCell}
-use Rattle.dk_segment.specs.Segment.{flag_of, flags_of, ones, with_nulls}
+use Rattle.dk_segment.specs.Segment.{flags_of, ones, with_nulls, cell_if, step_of}
 use Rattle.dk_bytes.specs.PlainValue.{is_present, present}
 
 -- ---- what a list with nulls is made of
@@ -106,3 +107,22 @@ pub cells_plain : (kind : ColType) (values : List Value) → AllByRecursion (IsC
 cells_plain kind [] h = tt
 cells_plain kind (cell.Null ∷ vs) h = cells_plain kind vs h.1
 cells_plain kind (v ∷ vs) h = (h.0, cells_plain kind vs h.1)
+
+-- one value more at its place
+with_one : (flag : ℕ) (flags : List ℕ) (values : List Value) → with_nulls (flag ∷ flags) values ≡ cell_if flag values ∷ with_nulls flags (drop (step_of flag) values)
+with_one flag flags [] = by_test (eqb flag 1) refl
+  where
+    by_test : (b : Bool) → eqb flag 1 ≡ b → with_nulls (flag ∷ flags) [] ≡ cell.Null ∷ with_nulls flags (drop (step_of flag) [])
+    by_test true e = rw e refl
+    by_test false e = rw e refl
+with_one flag flags (v ∷ vs) = by_test (eqb flag 1) refl
+  where
+    by_test : (b : Bool) → eqb flag 1 ≡ b → with_nulls (flag ∷ flags) (v ∷ vs) ≡ cell_if flag (v ∷ vs) ∷ with_nulls flags (drop (step_of flag) (v ∷ vs))
+    by_test true e = rw e refl
+    by_test false e = rw e refl
+
+pub put_one : (flag at at' : ℕ) (rest : List ℕ) (values front front' all : List Value) (value : Value) → front ++ with_nulls (flag ∷ rest) (drop at values) ≡ all → value ≡ cell_if flag (drop at values) → front' ≡ front ++ value ∷ [] → at' ≡ at + step_of flag → front' ++ with_nulls rest (drop at' values) ≡ all
+put_one flag at at' rest values front front' all value h e more step =
+    rw (more, step, e, ← drop-drop (step_of flag) at values)
+    (append_assoc front (cell_if flag (drop at values) ∷ []) (with_nulls rest (drop (step_of flag) (drop at values)))
+    ∙ ap (λ (l : List Value). front ++ l) (sym (with_one flag rest (drop at values))) ∙ h)

@@ -1,18 +1,17 @@
 -- A segment is read as the values that were written, and what is read is a segment.
-use Rattle.std.proofs.Common.{◌≡◌, ℕ, zero, suc, ◌+◌, ◌-◌, ◌*◌, ◌^◌, ◌<◌, ◌≤◌, Bool, true, false, ◌&&◌, ◌||◌, cond, eqb, ltb, leb, List, [], ◌∷◌, ◌++◌, length, map, Option, Some, None, Result, Ok, Err, refl, sym, ap, subst, ◌∙◌, append_assoc, arith, min, take, drop, inl, inr, ◌⊎◌, ◌/◌, ◌%◌}
+use Rattle.std.proofs.Common.{◌≡◌, ℕ, zero, suc, ◌+◌, ◌*◌, ◌^◌, ◌<◌, ◌≤◌, Bool, true, false, ◌&&◌, ◌||◌, cond, eqb, ltb, leb, List, [], ◌∷◌, ◌++◌, length, Option, Some, None, Result, Ok, Err, refl, sym, ap, subst, ◌∙◌, arith, inl, inr, ◌⊎◌, ◌/◌}
 use Rattle.dk_bytes.proofs.PackingLemmas.{found_packed, packed_again}
 use Rattle.std.specs.List.{AllByRecursion, list_all, list_any}
 use Rattle.std.specs.Int.{w8, w32, to_le_bytes}
 use Rattle.std.proofs.lemmas.Bool.{ltb-true, leb-true, le-leb, and_parts}
 use Rattle.std.proofs.lemmas.Bool.Decides.{Decides-eqb}
 use Rattle.std.specs.Simd.Lanes.{digits_l as digits, number_l as number}
-use Rattle.dk_bytes.proofs.NumberLemmas.{IsBytes-take, ok_is, fault_none, bytes_front}
+use Rattle.dk_bytes.proofs.NumberLemmas.{ok_is, fault_none, bytes_front}
 use Rattle.dk_values.specs.declared.value.ColType.{ColType}
 use Rattle.dk_values.specs.declared.value.Value.{Value}
-use Rattle.dk_bytes.specs.Fields.{IsBytes, Place, Passes, bytes_at, number_at}
-use Rattle.dk_bytes.specs.PlainValue.{IsPlain}
+use Rattle.dk_bytes.specs.Fields.{IsBytes, Place, bytes_at, number_at}
 use Rattle.dk_bytes.specs.Reading.{◌>>=◌, start, or_fault}
-use Rattle.dk_bytes.proofs.NumberLemmas.{low_byte, Takes, Takes-then, bind_ok, bind_at, guard_ok, chosen_ok, wide8, wide32, number_takes, number_again, bytes_takes, bytes_again}
+use Rattle.dk_bytes.proofs.NumberLemmas.{low_byte, Takes, bind_ok, bind_at, chosen_ok, wide8, wide32, number_takes, number_again, bytes_takes, bytes_again}
 use Rattle.dk_bytes.specs.Bits.{byte_count, packed, numbers_in}
 use Rattle.std.proofs.lemmas.List.{length-append}
 use Rattle.dk_bytes.proofs.DigitLemmas.{length-digits}
@@ -23,7 +22,7 @@ use Rattle.dk_segment.specs.Segment.{flags_of, ones, with_nulls, mask_flag, mask
 use Rattle.dk_bytes.specs.PlainValue.{is_present, present}
 use Rattle.dk_bytes.proofs.BodyLemmas.{body_read}
 use Rattle.dk_segment.proofs.BodyLemmas.{body_codec, holds_plain, holds_goes, holds_some}
-use Rattle.dk_segment.proofs.NullLemmas.{all_present, null_flag, flag_null, ones_flags, present_flag, flags_fit, placed_again, length-flags, plain_all_present, IsMadeOf, made_of}
+use Rattle.dk_segment.proofs.NullLemmas.{all_present, null_flag, flag_null, ones_flags, present_flag, flags_fit, placed_again, length-flags, plain_all_present, made_of}
 
 abbrev ok_values : List Value → Result (List Value) ℕ
 ok_values x = Ok x

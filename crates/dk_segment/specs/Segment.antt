@@ -1,5 +1,5 @@
 -- Which bytes are a segment, and of which values.
-use Rattle.std.specs.Prelude.{◌≡◌, ℕ, ◌+◌, ◌-◌, ◌*◌, ◌≤◌, Bool, true, false, ◌&&◌, ◌||◌, not, List, [], ◌∷◌, ◌++◌, length, map, count_by, Option, Some, None, Result, Ok, Err, ◌==◌, nat_lt, nat_le, if◌then◌else◌}
+use Rattle.std.specs.Prelude.{◌≡◌, ℕ, ◌+◌, ◌*◌, ◌≤◌, ◌&&◌, ◌||◌, List, [], ◌∷◌, ◌++◌, length, map, count_by, Option, Some, None, Result, Ok, Err, ◌==◌, nat_lt, nat_le, if◌then◌else◌}
 use Rattle.dk_bytes.specs.RowFields.{IsCell}
 use Rattle.std.specs.List.{AllByRecursion, list_all, list_any}
 use Rattle.std.specs.Int.{w8, w32, to_le_bytes}
@@ -7,12 +7,12 @@ use Rattle.dk_values.specs.declared.value.ColType.{ColType}
 use Rattle.dk_values.specs.declared.value.Value.{Value}
 use Rattle.dk_values.specs.declared.value.Value.TheVariants as cell
 use Rattle.dk_bytes.specs.Fields.{Place, bytes_at, number_at}
-use Rattle.dk_bytes.specs.PlainValue.{IsPlain, is_present, present}
+use Rattle.dk_bytes.specs.PlainValue.{is_present, present}
 use Rattle.dk_bytes.specs.Reading.{◌>>=◌, start, or_fault}
 use Rattle.dk_bytes.specs.Bits.{byte_count, packed, numbers_in}
 use Rattle.dk_segment.specs.declared.encoding.Encoding.{Encoding}
 use Rattle.dk_segment.specs.declared.present.TheConstants.{MAX_VALUES}
-use Rattle.dk_segment.specs.Bodies.{Holds, body_of, body_at, code_of, encoding_of, goes_with, is_plain}
+use Rattle.dk_segment.specs.Bodies.{Holds, body_of, body_at, code_of, encoding_of, is_plain}
 
 -- ---- values with nulls among them
 
@@ -42,6 +42,15 @@ abbrev pub with_nulls : List ℕ → List Value → List Value
 with_nulls [] values = []
 with_nulls (flag ∷ flags) values = if flag == 1 then placed values (with_nulls flags)
     else cell.Null ∷ with_nulls flags values
+
+-- the value that a flag stands for, if these are the present values from its place on
+abbrev pub cell_if : ℕ → List Value → Value
+cell_if flag [] = cell.Null
+cell_if flag (value ∷ values) = if flag == 1 then value else cell.Null
+
+-- how many present values a flag stands for
+abbrev pub step_of : ℕ → ℕ
+step_of flag = if flag == 1 then 1 else 0
 
 -- ---- the bytes
 

@@ -1,5 +1,5 @@
 //! The body of each encoding: its length, how it is appended, and how it is read.
-ghost use Rattle.std.specs.Prelude.{◌≡◌, ◌++◌, ◌↔◌, ◌≤◌, ℕ, length, IsSome, IfErr, IfSome, OnOk};
+ghost use Rattle.std.specs.Prelude.{◌≡◌, ◌++◌, ◌↔◌, ◌≤◌, ℕ, [], length, IsSome, IfErr, IfSome, OnOk};
 ghost use Rattle.dk_bytes.specs.PlainValue.{present};
 ghost use Rattle.dk_bytes.specs.Reading.{Gives};
 ghost use Rattle.dk_bytes.specs.declared.field_error.FieldError.TheVariants.{Malformed};
@@ -7,9 +7,13 @@ ghost use Rattle.dk_segment.specs.Bodies.{Holds, body_of, body_at};
 
 use crate::encoding::Encoding;
 use dk_bytes::SegError;
-use dk_seg_pack::packed;
-use dk_seg_run::{constant, run_length};
-use dk_seg_text::{dictionary, plain};
+use dk_columns::Cells;
+use dk_seg_body::Body;
+use dk_seg_pack::packed::Packed;
+use dk_seg_run::constant::Constant;
+use dk_seg_run::run_length::RunLength;
+use dk_seg_text::dictionary::Dictionary;
+use dk_seg_text::plain::Plain;
 use dk_values::{ColType, OutOfMemory, Value};
 use std::alloc::Global;
 
@@ -19,11 +23,11 @@ pub(crate) fn body_size(encoding: Encoding, values: &[Value], kind: ColType) -> 
     ensures length { IfSome result (λ n. n ≡ length (body_of encoding (present values.now))) }
 {
     match encoding {
-        Encoding::Constant => constant::size(values, kind),
-        Encoding::RunLength => run_length::size(values, kind),
-        Encoding::Packed => packed::size(values, kind),
-        Encoding::Dictionary => dictionary::size(values, kind),
-        Encoding::Plain => plain::size(values, kind),
+        Encoding::Constant => Constant::size(values, kind),
+        Encoding::RunLength => RunLength::size(values, kind),
+        Encoding::Packed => Packed::size(values, kind),
+        Encoding::Dictionary => Dictionary::size(values, kind),
+        Encoding::Plain => Plain::size(values, kind),
     }
 }
 
@@ -38,43 +42,48 @@ pub(crate) fn put_body(
     ensures { OnOk result (out.new.items ≡ out.old.items ++ body_of encoding (present values.now)) }
 {
     match encoding {
-        Encoding::Constant => constant::encode(values, kind, out),
-        Encoding::RunLength => run_length::encode(values, kind, out),
-        Encoding::Packed => packed::encode(values, kind, out),
-        Encoding::Dictionary => dictionary::encode(values, kind, out),
-        Encoding::Plain => plain::encode(values, kind, out),
+        Encoding::Constant => Constant::encode(values, kind, out),
+        Encoding::RunLength => RunLength::encode(values, kind, out),
+        Encoding::Packed => Packed::encode(values, kind, out),
+        Encoding::Dictionary => Dictionary::encode(values, kind, out),
+        Encoding::Plain => Plain::encode(values, kind, out),
     }
 }
 
-/// The present values that a body stands for; a fault stands at most at the body's end.
+/// Fills a column that has no values with the present values that a body stands for; a fault stands at most at the
+/// body's end.
 #[tactic(auto, using(crate::proofs::BodyLemmas::place_within))]
 pub(crate) fn read_body(
     alloc: Global,
     encoding: Encoding,
     bytes: &[u8],
-    kind: ColType,
     count: usize,
-) -> Result<Vec<Value>, SegError>
-    ensures place { Gives (λ v. v.items) result (body_at encoding kind count bytes.now) }
+    cells: &mut Cells,
+) -> Result<(), SegError>
+    requires { cells.old.values ≡ [] }
+    ensures kind { cells.new.kind ≡ cells.old.kind }
+    ensures place { Gives (λ _. cells.new.values) result (body_at encoding cells.old.kind count bytes.now) }
     ensures within { IfErr result (λ e. (at : ℕ) → e ≡ Malformed at → at ≤ length bytes.now) }
 {
-    read(alloc, encoding, bytes, kind, count)
+    read(alloc, encoding, bytes, count, cells)
 }
 
 fn read(
     alloc: Global,
     encoding: Encoding,
     bytes: &[u8],
-    kind: ColType,
     count: usize,
-) -> Result<Vec<Value>, SegError>
-    ensures { Gives (λ v. v.items) result (body_at encoding kind count bytes.now) }
+    cells: &mut Cells,
+) -> Result<(), SegError>
+    requires { cells.old.values ≡ [] }
+    ensures kind { cells.new.kind ≡ cells.old.kind }
+    ensures place { Gives (λ _. cells.new.values) result (body_at encoding cells.old.kind count bytes.now) }
 {
     match encoding {
-        Encoding::Constant => constant::decode(alloc, bytes, kind, count),
-        Encoding::RunLength => run_length::decode(alloc, bytes, kind, count),
-        Encoding::Packed => packed::decode(alloc, bytes, kind, count),
-        Encoding::Dictionary => dictionary::decode(alloc, bytes, kind, count),
-        Encoding::Plain => plain::decode(alloc, bytes, kind, count),
+        Encoding::Constant => Constant::read(alloc, bytes, count, cells),
+        Encoding::RunLength => RunLength::read(alloc, bytes, count, cells),
+        Encoding::Packed => Packed::read(alloc, bytes, count, cells),
+        Encoding::Dictionary => Dictionary::read(alloc, bytes, count, cells),
+        Encoding::Plain => Plain::read(alloc, bytes, count, cells),
     }
 }

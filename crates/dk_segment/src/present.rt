@@ -1,11 +1,15 @@
 //! What a segment can hold, and where its nulls stand.
-ghost use Rattle.std.specs.Prelude.{◌≡◌, ◌↔◌, map, IsTrue, IfOk};
+ghost use Rattle.std.specs.Prelude.{◌≡◌, ◌↔◌, ◌++◌, ◌≤◌, drop, map, IsTrue, IfOk, OnOk};
 ghost use Rattle.std.specs.List.{AllByRecursion, list_all};
 ghost use Rattle.dk_bytes.specs.PlainValue.{is_present};
 ghost use Rattle.dk_bytes.specs.RowFields.{IsCell};
-ghost use Rattle.dk_segment.specs.Segment.{IsColumn, flag_of, flags_of, with_nulls};
+ghost use Rattle.dk_segment.specs.Segment.{IsColumn, flag_of, flags_of, with_nulls, cell_if, step_of};
+ghost use Rattle.dk_rows.specs.Cells.{value_of};
+ghost use Rattle.dk_columns.specs.Columns.{IsOfKind};
 
 use dk_bytes::{is_present, plain_len};
+use dk_columns::Cells;
+use dk_rows::Cell;
 use dk_values::{ColType, OutOfMemory, Value};
 use std::alloc::Global;
 
@@ -46,6 +50,14 @@ pub fn is_column(values: &[Value], kind: ColType) -> bool
     !values.is_empty() && values.len() <= MAX_VALUES && are_cells(values, kind)
 }
 
+/// Whether a segment can hold the values of the column. A list of them is made for the test.
+pub fn is_column_of(alloc: Global, cells: &Cells) -> Result<bool, OutOfMemory>
+    ensures { IfOk result (λ holds. IsTrue holds ↔ IsColumn cells.now.kind cells.now.values) }
+{
+    let values = cells.to_values(alloc)?;
+    Ok(is_column(values.as_slice(), cells.kind()))
+}
+
 /// A number 1 for each value that is present, and 0 for each null.
 pub(crate) fn flags_of(alloc: Global, values: &[Value]) -> Result<Vec<u64>, OutOfMemory>
     ensures { IfOk result (λ flags. flags.items ≡ flags_of values.now) }
@@ -59,23 +71,40 @@ fn flag_of(value: &Value) -> u64
     if is_present(value) { 1 } else { 0 }
 }
 
-/// The present values at their places, and nulls between them.
-pub(crate) fn with_nulls(
-    alloc: Global,
+/// Adds the present values of another column at their places, and nulls between them.
+pub(crate) fn push_with_nulls(
     flags: &[u64],
-    present: Vec<Value>,
-) -> Result<Vec<Value>, OutOfMemory>
-    ensures { IfOk result (λ values. values.items ≡ with_nulls flags.now present.items) }
+    present: &Cells,
+    cells: &mut Cells,
+) -> Result<(), OutOfMemory>
+    requires { cells.old.kind ≡ present.now.kind }
+    ensures kind { cells.new.kind ≡ cells.old.kind }
+    ensures values { OnOk result (cells.new.values ≡ cells.old.values ++ with_nulls flags.now present.now.values) }
 {
-    let mut values = Vec::with_capacity(alloc, flags.len())?;
-    let mut rest = present.into_iter();
+    let mut at = 0usize;
     'flags: for flag in flags {
-        let value = if *flag == 1 {
-            rest.next().unwrap_or(Value::Null)
-        } else {
-            Value::Null
-        };
-        values.push(value)?;
+        cells.push(&cell_if(present, at, *flag))?;
+        at += step_of(*flag);
     }
-    Ok(values)
+    Ok(())
+}
+
+/// How many present values a flag stands for.
+fn step_of(flag: u64) -> usize
+    ensures value { result ≡ step_of flag }
+    ensures most { result ≤ 1 }
+{
+    if flag == 1 { 1 } else { 0 }
+}
+
+/// The value at that place where the flag is 1, and else a null; past the last there are nulls.
+fn cell_if(present: &Cells, at: usize, flag: u64) -> Cell<'_>
+    ensures value { value_of result ≡ cell_if flag (drop at present.now.values) }
+    ensures kind { IsOfKind present.now.kind (value_of result) }
+{
+    if flag == 1 && at < present.len() {
+        present.get(at)
+    } else {
+        Cell::Null
+    }
 }

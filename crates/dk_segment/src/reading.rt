@@ -1,5 +1,5 @@
 //! How a segment is read, up to its first fault.
-ghost use Rattle.std.specs.Prelude.{◌≡◌, ◌==◌, ◌&&◌, ◌||◌, ◌<◌, ◌≤◌, ◌^◌, List, length, count_by, Ok, IfOk, Some};
+ghost use Rattle.std.specs.Prelude.{◌≡◌, ◌==◌, ◌&&◌, ◌||◌, ◌<◌, ◌≤◌, ◌^◌, List, [], length, count_by, Ok, IfOk, OnErr, Some};
 ghost use Rattle.std.specs.List.{list_any};
 ghost use Rattle.dk_values.specs.declared.value.Value.{Value};
 ghost use Rattle.dk_bytes.specs.Reading.{Gives};
@@ -9,8 +9,9 @@ ghost use Rattle.dk_segment.specs.Segment.{IsSegment, ones, encoding_at, flag_at
 
 use crate::bodies::read_body;
 use crate::encoding::{Encoding, encoding_of};
-use crate::present::{MAX_VALUES, with_nulls};
+use crate::present::{MAX_VALUES, push_with_nulls};
 use dk_bytes::{Cursor, SegError, unpack};
+use dk_columns::Cells;
 use dk_values::{ColType, Value};
 use std::alloc::Global;
 
@@ -24,18 +25,50 @@ pub fn decode(alloc: Global, bytes: &[u8], kind: ColType) -> Result<Vec<Value>, 
     read(alloc, bytes, kind)
 }
 
-#[tactic(auto, unfolding(crate::specs::Segment::segment_at))]
 fn read(alloc: Global, bytes: &[u8], kind: ColType) -> Result<Vec<Value>, SegError>
     ensures { Gives (λ v. v.items) result (segment_at kind bytes.now) }
 {
+    let mut cells = Cells::new(alloc, kind);
+    fill(alloc, bytes, &mut cells)?;
+    Ok(cells.to_values(alloc)?.into_vec())
+}
+
+/// Fills a column with the values that the bytes stand for as a segment of its type, in place of those that it had.
+/// Where it fails the column has no values.
+pub fn decode_cells(alloc: Global, bytes: &[u8], cells: &mut Cells) -> Result<(), SegError>
+    ensures kind { cells.new.kind ≡ cells.old.kind }
+    ensures found { IfOk result (λ _. (encoding : Encoding)
+        × IsSegment cells.old.kind encoding cells.new.values bytes.now) }
+    ensures only { (encoding : Encoding) (values : List Value) → IsSegment cells.old.kind encoding values bytes.now
+        → Gives (λ _. cells.new.values) result (Ok values) }
+    ensures place { Gives (λ _. cells.new.values) result (segment_at cells.old.kind bytes.now) }
+    ensures err { OnErr result (cells.new.values ≡ []) }
+{
+    cells.clear();
+    match fill(alloc, bytes, cells) {
+        Ok(()) => Ok(()),
+        Err(fault) => {
+            cells.clear();
+            Err(fault)
+        }
+    }
+}
+
+/// Fills a column that has no values.
+#[tactic(auto, unfolding(crate::specs::Segment::segment_at))]
+fn fill(alloc: Global, bytes: &[u8], cells: &mut Cells) -> Result<(), SegError>
+    requires { cells.old.values ≡ [] }
+    ensures kind { cells.new.kind ≡ cells.old.kind }
+    ensures values { Gives (λ _. cells.new.values) result (segment_at cells.old.kind bytes.now) }
+{
     let mut cursor = Cursor::new(bytes);
-    let encoding = read_encoding(&mut cursor, kind)?;
+    let encoding = read_encoding(&mut cursor, cells.kind())?;
     let flag = read_flag(&mut cursor)?;
     let count = read_count(&mut cursor)?;
     if flag == 0 {
-        read_behind(alloc, &mut cursor, encoding, kind, count as usize)
+        read_behind(alloc, &mut cursor, encoding, count as usize, cells)
     } else {
-        read_masked(alloc, &mut cursor, encoding, kind, count as usize)
+        read_masked(alloc, &mut cursor, encoding, count as usize, cells)
     }
 }
 
@@ -77,41 +110,50 @@ fn read_count(cursor: &mut Cursor) -> Result<u32, SegError>
     }
 }
 
-/// The present values that the rest of the bytes stands for; a fault's place counts from the segment's start.
+/// Fills a column that has no values with the present values that the rest of the bytes stands for; a fault's place
+/// counts from the segment's start.
 fn read_behind(
     alloc: Global,
     cursor: &mut Cursor,
     encoding: Encoding,
-    kind: ColType,
     count: usize,
-) -> Result<Vec<Value>, SegError>
-    ensures { Gives (λ v. v.items) result (moved cursor.old.at (body_at encoding kind count cursor.old.rest)) }
+    cells: &mut Cells,
+) -> Result<(), SegError>
+    requires { cells.old.values ≡ [] }
+    ensures kind { cells.new.kind ≡ cells.old.kind }
+    ensures values { Gives (λ _. cells.new.values) result
+        (moved cursor.old.at (body_at encoding cells.old.kind count cursor.old.rest)) }
 {
     let start = cursor.at();
     let left = cursor.left();
     let bytes = cursor.take(left)?;
     // The end has a place, and so has each fault before it.
     let _end = cursor.at();
-    match read_body(alloc, encoding, bytes, kind, count) {
+    match read_body(alloc, encoding, bytes, count, cells) {
         Err(SegError::Malformed { at }) => Err(SegError::Malformed { at: start + at }),
         read => read,
     }
 }
 
+/// Fills a column that has no values with those that a mask and the present values stand for.
 #[tactic(auto, unfolding(crate::specs::Segment::masked_at))]
 fn read_masked(
     alloc: Global,
     cursor: &mut Cursor,
     encoding: Encoding,
-    kind: ColType,
     count: usize,
-) -> Result<Vec<Value>, SegError>
-    requires { count < 2 ^ 32 }
-    ensures { Gives (λ v. v.items) result (masked_at encoding kind count cursor.old) }
+    cells: &mut Cells,
+) -> Result<(), SegError>
+    requires count { count < 2 ^ 32 }
+    requires none { cells.old.values ≡ [] }
+    ensures kind { cells.new.kind ≡ cells.old.kind }
+    ensures values { Gives (λ _. cells.new.values) result (masked_at encoding cells.old.kind count cursor.old) }
 {
     let flags = read_flags(alloc, cursor, encoding, count)?;
-    let values = read_behind(alloc, cursor, encoding, kind, ones(&flags))?;
-    Ok(with_nulls(alloc, &flags, values)?)
+    let mut present = Cells::new(alloc, cells.kind());
+    read_behind(alloc, cursor, encoding, ones(&flags), &mut present)?;
+    push_with_nulls(&flags, &present, cells)?;
+    Ok(())
 }
 
 /// How many flags are 1.

@@ -1,12 +1,40 @@
 //! Segments of each encoding that are spelled out, the choice among them, and the place of the first fault.
-use crate::{Encoding, analyse, decode, encode, is_column};
+use crate::{
+    Encoding, analyse, decode, decode_cells, encode, encode_cells, is_column, is_column_of,
+};
 use dk_bytes::SegError;
+use dk_columns::Cells;
+use dk_rows::Cell;
 use dk_values::{ColType, List, Value};
 use std::process::Abort;
 use std::test::Fail;
 
 fn text(rt: &impl AllocGlobal, bytes: &[u8]) -> Result<Value, Fail> {
     Ok(Value::Text(List::from_vec(Vec::from_slice(rt.alloc(), bytes)?)))
+}
+
+/// The bytes are read into a column of the type that had a value before, and the column has these values then.
+fn fills_column<R: AllocGlobal + Abort>(
+    rt: &R,
+    values: &[Value],
+    kind: ColType,
+    bytes: &[u8],
+) -> Result<Cells, Fail> {
+    let mut cells = Cells::new(rt.alloc(), kind);
+    cells.push(&Cell::Null)?;
+    decode_cells(rt.alloc(), bytes, &mut cells)?;
+    let read = cells.to_values(rt.alloc())?;
+    assert_eq!(rt; read.as_slice(), values);
+    Ok(cells)
+}
+
+/// The column is written as these bytes.
+fn is_spelled<R: AllocGlobal + Abort>(rt: &R, cells: &Cells, bytes: &[u8]) -> Result<(), Fail> {
+    let holds = is_column_of(rt.alloc(), cells)?;
+    assert!(rt; holds);
+    let spelled = encode_cells(rt.alloc(), cells)?;
+    assert_eq!(rt; spelled.as_slice(), bytes);
+    Ok(())
 }
 
 /// The values are written as these bytes, and read back.
@@ -21,7 +49,8 @@ fn comes_back<R: AllocGlobal + Abort>(
     assert_eq!(rt; spelled.as_slice(), bytes);
     let back = decode(rt.alloc(), bytes, kind)?;
     assert_eq!(rt; back.as_slice(), values);
-    Ok(())
+    let cells = fills_column(rt, values, kind, bytes)?;
+    is_spelled(rt, &cells, bytes)
 }
 
 /// The values take so many bytes, and are read back.
@@ -36,7 +65,8 @@ fn has_len<R: AllocGlobal + Abort>(
     assert_eq!(rt; spelled.len(), len);
     let back = decode(rt.alloc(), spelled.as_slice(), kind)?;
     assert_eq!(rt; back.as_slice(), values);
-    Ok(())
+    let cells = fills_column(rt, values, kind, spelled.as_slice())?;
+    is_spelled(rt, &cells, spelled.as_slice())
 }
 
 #[test]
@@ -267,13 +297,19 @@ fn first_faults(rt: HostRuntime) {
     for (bytes, at) in faults {
         let read = decode(rt.alloc(), bytes, ColType::Big);
         assert!(rt; matches!(read, Err(SegError::Malformed { at: place }) if place == at));
+        let mut cells = Cells::new(rt.alloc(), ColType::Big);
+        let filled = decode_cells(rt.alloc(), bytes, &mut cells);
+        assert!(rt; matches!(filled, Err(SegError::Malformed { at: place }) if place == at));
     }
 }
 
 /// The bytes are refused within them, or stand for a column that is written as these bytes or in another encoding.
 fn is_lawful<R: AllocGlobal + Abort>(rt: &R, bytes: &[u8], kind: ColType) -> Result<(), Fail> {
     let values = match decode(rt.alloc(), bytes, kind) {
-        Ok(values) => values,
+        Ok(values) => {
+            let _cells = fills_column(rt, &values, kind, bytes)?;
+            values
+        }
         Err(error) => {
             assert!(rt; matches!(error, SegError::Malformed { at } if at <= bytes.len() as u64));
             return Ok(());

@@ -13,6 +13,7 @@ use crate::choice::best;
 use crate::encoding::{Encoding, code_of};
 use crate::present::{are_present, flags_of};
 use dk_bytes::{pack, put_u8, put_u32};
+use dk_columns::Cells;
 use dk_seg_text::dictionary;
 use dk_values::{ColType, OutOfMemory, Value};
 use std::alloc::Global;
@@ -26,6 +27,16 @@ pub fn encode(alloc: Global, values: &[Value], kind: ColType) -> Result<Vec<u8>,
     let dictionary = dictionary::size_in(alloc, values, kind)?;
     let encoding = best(values, kind, dictionary);
     spell(alloc, encoding, values, kind)
+}
+
+/// The segment of a column's values in the encoding of least size. A list of the values is made for it.
+pub fn encode_cells(alloc: Global, cells: &Cells) -> Result<Vec<u8>, OutOfMemory>
+    requires { IsColumn cells.now.kind cells.now.values }
+    ensures { IfOk result (λ v. (encoding : Encoding) × IsBest cells.now.kind (present cells.now.values) encoding
+        × IsSegment cells.now.kind encoding cells.now.values v.items) }
+{
+    let values = cells.to_values(alloc)?;
+    encode(alloc, values.as_slice(), cells.kind())
 }
 
 /// The segment in this encoding.

@@ -1,4 +1,4 @@
-use Rattle.std.proofs.Common.{suc, length, Some, ap, sym, ◌∙◌, arith}
+use Rattle.std.proofs.Common.{suc, length, ap, sym, ◌∙◌, arith}
 use Rattle.std.specs.Prelude.{slice_get}
 use Rattle.dk_columns.specs.Columns.{Column}
 use Rattle.dk_columns.proofs.PutLemmas.{long_at, row_value}

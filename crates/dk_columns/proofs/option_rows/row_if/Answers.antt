@@ -1,4 +1,4 @@
-use Rattle.std.proofs.Common.{Bool, List, Option, true, false, Some, suc, ap, sym, ◌∙◌, arith}
+use Rattle.std.proofs.Common.{Bool, List, true, false, Some, suc, ap, sym, ◌∙◌, arith}
 use Rattle.dk_values.specs.declared.value.Value.{Value}
 use Rattle.dk_columns.specs.OptionTables.{AreLong}
 use Rattle.dk_columns.proofs.PutLemmas.{long_less, row_fits}

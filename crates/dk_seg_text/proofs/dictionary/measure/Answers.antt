@@ -1,8 +1,8 @@
-use Rattle.std.proofs.Common.{◌≡◌, ◌+◌, ◌<◌, ◌^◌, ◌||◌, not, ℕ, List, arith, ap, sym, ◌∙◌, length, take, map}
+use Rattle.std.proofs.Common.{◌≡◌, ◌+◌, ◌<◌, ◌^◌, ℕ, List, arith, ap, sym, ◌∙◌, length, take, map}
 use Rattle.std.specs.List.{flat_map}
 use Rattle.dk_values.specs.declared.value.Value.{Value}
-use Rattle.dk_bytes.specs.PlainValue.{is_present, present}
-use Rattle.dk_seg_text.specs.Dictionary.{text_of, entries_of, is_entry, entry_bytes}
+use Rattle.dk_bytes.specs.PlainValue.{present}
+use Rattle.dk_seg_text.specs.Dictionary.{text_of, entries_of, entry_bytes}
 use Rattle.dk_seg_text.proofs.MeasureLemmas.{with_cell, entries_next, rest_fits, first_short, cell_measured, never, too_many}
 use Rattle.dk_seg_text.proofs.dictionary.measure.Goals as goal
 

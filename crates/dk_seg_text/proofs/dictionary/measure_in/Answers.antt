@@ -1,6 +1,5 @@
-use Rattle.std.proofs.Common.{◌≡◌, ◌<◌, ◌≤◌, ◌^◌, ℕ, List, not, arith, ap, sym, subst, ◌∙◌, length, map}
+use Rattle.std.proofs.Common.{◌≡◌, ◌<◌, ◌^◌, ℕ, List, not, arith, ap, sym, ◌∙◌, length, map}
 use Rattle.std.specs.List.{flat_map}
-use Rattle.dk_values.specs.declared.value.Value.{Value}
 use Rattle.dk_bytes.specs.PlainValue.{present}
 use Rattle.dk_seg_text.specs.Dictionary.{text_of, entries_of, entries_behind, is_entry, with_entry, entry_bytes}
 use Rattle.dk_seg_text.proofs.MeasureLemmas.{not_twice, one_behind, first_fits, full_behind, short_text, one_measured, never}

@@ -5,6 +5,7 @@ use Rattle.dk_bytes.proofs.FrontLemmas.{with_front}
 
 abbrev pub invariant-values : goal.invariant-values
 invariant-values l = record {
-  told : with_front l.values.items (values_at l.kind (l.count - l.counter) l.cursor) ≡ values_at l.kind l.count l.fn.cursor;
+  kind : l.cells.kind ≡ l.fn.cells.kind;
+  told : with_front l.cells.values (values_at l.kind (l.count - l.counter) l.cursor) ≡ values_at l.kind l.count l.fn.cursor;
   within : l.counter ≤ l.count;
 }

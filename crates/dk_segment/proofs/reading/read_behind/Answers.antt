@@ -1,4 +1,4 @@
-use Rattle.std.proofs.Common.{◌+◌, ◌<◌, ◌≤◌, ◌^◌, arith, rules, length}
+use Rattle.std.proofs.Common.{◌<◌, ◌^◌, arith, rules}
 use Rattle.std.proofs.Math.Facts.{Fits-of_lt}
 use Rattle.dk_segment.proofs.reading.read_behind.Goals as goal
 

@@ -1,5 +1,4 @@
-use Rattle.std.proofs.Common.{List, length, ap, sym, ◌∙◌, arith}
-use Rattle.std.specs.Prelude.{slice_get}
+use Rattle.std.proofs.Common.{List, length, ap, arith}
 use Rattle.dk_values.specs.declared.value.Value.{Value}
 use Rattle.dk_columns.proofs.PutLemmas.{row_len}
 use Rattle.dk_columns.proofs.option_row.OptionRow.get.Goals as goal

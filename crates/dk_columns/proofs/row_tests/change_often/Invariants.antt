@@ -1,6 +1,0 @@
--- The columns stay of their types.
-use Rattle.std.proofs.Common.{◌≡◌}
-use Rattle.dk_columns.proofs.row_tests.change_often.Given as goal
-
-abbrev pub invariant-changes : goal.invariant-changes
-invariant-changes l = l.rows.kinds ≡ l.fn.rows.kinds

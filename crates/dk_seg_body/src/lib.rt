@@ -1,0 +1,11 @@
+//! What the bodies of all encodings of column segments share.
+//!
+//! A `Body` is an encoding of values that are not null: which values it holds, how long their bytes are, how they are
+//! appended, and how bytes are read straight into a column of cells: the values that the bytes stand for, or the place
+//! of the first fault of all other bytes. Stands on `dk_bytes` for fields and plain values and on
+//! `dk_columns` for the columns.
+#![tactic(auto)]
+
+mod body;
+
+pub use body::{Body, decode};
