@@ -1,2 +1,5 @@
-pub mod ChosenLemmas
+pub mod SelectionLemmas
 pub mod FoldLemmas
+pub mod CountLemmas
+pub mod ExtremeLemmas
+pub mod TextLemmas

@@ -1,9 +1,0 @@
--- The sum of what the first i bits choose, within bounds.
-use Rattle.std.proofs.Common.{◌≡◌, ◌*◌, ◌^◌, take, pos, ◌+ℤ◌, neg_ℤ, ◌≤ℤ◌, fold}
-use Rattle.dk_scans.specs.Chosen.{chosen, bits}
-use Rattle.dk_scans.proofs.folds.sum_bits.Given as goal
-
-abbrev pub invariant-numbers : goal.invariant-numbers
-invariant-numbers l =
-    (l.sum ≡ fold ◌+ℤ◌ (pos 0) (chosen (bits l.i l.word) (take l.i l.numbers)))
-    × (neg_ℤ (pos (2 ^ 63 * l.i)) ≤ℤ l.sum) × (l.sum ≤ℤ pos (2 ^ 63 * l.i))
