@@ -3,3 +3,4 @@ pub mod SegmentLemmas
 pub mod PageLemmas
 pub mod TreeLemmas
 pub mod ChainLemmas
+pub mod ListLemmas

@@ -1,13 +1,13 @@
 -- Fields that pass a test, lists of fields, and byte strings that are used up.
-use Rattle.std.proofs.Common.{◌≡◌, ℕ, ◌+◌, ◌^◌, ◌<◌, Bool, true, cond, List, [], ◌∷◌, ◌++◌, length, Result, Ok, Err, refl, sym, ap, subst, ◌∙◌, append-nil, length-append, arith}
+use Rattle.std.proofs.Common.{◌≡◌, ℕ, ◌+◌, ◌^◌, ◌<◌, Bool, true, cond, List, [], ◌∷◌, ◌++◌, length, Result, Ok, Err, sym, ap, subst, ◌∙◌, append-nil, length-append, arith}
 use Rattle.std.specs.Prelude.{IfOk}
 use Rattle.std.specs.List.{flat_map, AllByRecursion}
-use Rattle.std.specs.Int.{Width, byte_len, to_le_bytes}
+use Rattle.std.specs.Int.{Width, to_le_bytes}
 use mir.Val.{bits}
 use Rattle.dk_bytes.specs.Fields.{IsBytes, Place, number_at}
 use Rattle.dk_bytes.specs.declared.field_error.FieldError.{FieldError}
 use Rattle.dk_bytes.specs.Reading.{◌>>=◌, Gives, list_at, AllFollow, start, whole}
-use Rattle.dk_bytes.proofs.NumberLemmas.{Takes, IsWide, bind_ok, bind_at, chosen_ok, number_takes, number_again}
+use Rattle.dk_bytes.proofs.NumberLemmas.{Takes, IsWide, bind_ok, chosen_ok, number_takes}
 use Rattle.dk_bytes.proofs.OutcomeLemmas.{gives_found, gives_only, whole_ok, whole_at}
 use Rattle.dk_bytes.proofs.PlainValueLemmas.{after}
 use Rattle.dk_bytes.proofs.SpellLemmas.{before, IsSpelled, IsField, list_takes, list_again}

@@ -1,5 +1,5 @@
 -- Trees: what is read is spelled there, and what is spelled there is read.
-use Rattle.std.proofs.Common.{◌≡◌, ℕ, ◌+◌, ◌^◌, ◌<◌, ◌≤◌, Bool, true, false, cond, leb, List, [], ◌∷◌, ◌++◌, length, Result, Ok, Err, refl, sym, ap, subst, ◌∙◌, append_assoc, length-append, arith}
+use Rattle.std.proofs.Common.{◌≡◌, ℕ, ◌+◌, ◌^◌, ◌<◌, ◌≤◌, true, cond, List, [], ◌∷◌, ◌++◌, length, Ok, Err, refl, sym, ap, subst, ◌∙◌, append_assoc, arith}
 use Rattle.std.specs.List.{flat_map, AllByRecursion}
 use Rattle.std.specs.Int.{w16, w32, w64, to_le_bytes}
 use Rattle.std.proofs.lemmas.Bool.{leb-true}
@@ -8,7 +8,7 @@ use Rattle.dk_pages.specs.declared.page.GroupRef.{GroupRef}
 use Rattle.dk_pages.specs.declared.tree.TableEntry.{TableEntry}
 use Rattle.dk_bytes.specs.Fields.{IsBytes, Place, number_at}
 use Rattle.dk_bytes.specs.Reading.{◌>>=◌, list_at, AllFollow}
-use Rattle.dk_bytes.specs.ColumnFields.{IsName, name_bytes, name_at, columns_bytes, columns_at}
+use Rattle.dk_bytes.specs.ColumnFields.{name_bytes, name_at, columns_bytes, columns_at}
 use Rattle.dk_bytes.proofs.NumberLemmas.{Takes, Takes-then, bind_ok, guard_ok, wide16, wide32, wide64, number_again, ok_is, done}
 use Rattle.dk_bytes.proofs.PlainValueLemmas.{after}
 use Rattle.dk_bytes.proofs.SpellLemmas.{before, IsSpelled, IsField, list_takes, list_again}

@@ -1,5 +1,5 @@
 -- The payload of a block of a chain. A chain is a byte string that is kept in blocks, part by part.
-use Rattle.std.specs.Prelude.{◌≡◌, ℕ, ◌+◌, ◌-◌, ◌<◌, ◌≤◌, ◌==◌, Bool, ◌&&◌, nat_lt, nat_le, List, ◌++◌, length, take, drop, replicate, Option, Some, None, IsSome, IfSome, Result, Ok, Err, if◌then◌else◌}
+use Rattle.std.specs.Prelude.{◌≡◌, ℕ, ◌-◌, ◌<◌, ◌≤◌, ◌==◌, Bool, ◌&&◌, nat_lt, nat_le, List, ◌++◌, length, take, drop, replicate, Option, Some, None, IsSome, IfSome, Result, Ok, Err, if◌then◌else◌}
 use Rattle.std.specs.List.{list_all}
 use Rattle.std.specs.Int.{w32, w64, to_le_bytes, from_le_bytes}
 use Rattle.dk_meta.specs.declared.limits.TheConstants.{NO_BLOCK, PART_BYTES}

@@ -1,5 +1,5 @@
 -- Byte strings that are used up, and fields that pass a test.
-use Rattle.std.specs.Prelude.{◌≡◌, ℕ, ◌^◌, ◌<◌, Bool, true, List, Result, Ok, Err, if◌then◌else◌}
+use Rattle.std.specs.Prelude.{◌≡◌, ℕ, Bool, List, Result, Ok, Err, if◌then◌else◌}
 use Rattle.std.specs.Int.{Width}
 use Rattle.dk_bytes.specs.Fields.{Place, number_at}
 use Rattle.dk_bytes.specs.Reading.{◌>>=◌}

@@ -9,7 +9,7 @@ ghost use Rattle.dk_meta.specs.Segments.{HasCount, vectors_at, vectors_bytes};
 ghost use Rattle.dk_meta.specs.Page.{IsPage, is_between, is_row_count, is_width, offset_at, offset_bytes, offsets_at, offsets_bytes, page_at, page_bytes};
 
 use crate::limits::GROUP_ROWS;
-use crate::room::room_for;
+use crate::room::with_room;
 use crate::segments::{put_vectors, read_vectors, vectors_room};
 use dk_bytes::{Cursor, FieldError, put_u16, put_u32};
 use dk_pages::{ColumnRefs, GroupPage, VectorRefs};
@@ -73,8 +73,7 @@ fn read_each_offset(
     ensures { Reads (λ offsets. offsets.items) result cursor.new
         (list_at (offset_at rows) count [] cursor.old) }
 {
-    let room = room_for(count as u64, cursor.left(), OFFSET_BYTES);
-    let mut offsets = Vec::with_capacity(alloc, room)?;
+    let mut offsets = with_room(alloc, count as u64, cursor.left(), OFFSET_BYTES)?;
     let mut least = 0;
     'offsets: for _ in 0..count {
         let offset = read_offset(cursor, least, rows)?;
@@ -105,8 +104,7 @@ fn read_each_column(
     ensures { Reads (λ columns. columns.items) result cursor.new
         (list_at (always (vectors_at rows)) count [] cursor.old) }
 {
-    let room = room_for(count as u64, cursor.left(), LEAST_COLUMN_BYTES);
-    let mut columns = Vec::with_capacity(alloc, room)?;
+    let mut columns = with_room(alloc, count as u64, cursor.left(), LEAST_COLUMN_BYTES)?;
     'columns: for _ in 0..count {
         let vectors = read_vectors(alloc, cursor, rows)?;
         columns.push(vectors)?;

@@ -7,7 +7,7 @@ ghost use Rattle.dk_meta.specs.Strings.{always, checked_at};
 ghost use Rattle.dk_meta.specs.Segments.{HasCount, is_some, lies_within, next_vector_at, segment_at, segment_ref_bytes, total_rows, vector_at, vector_bytes, vector_count, vector_rows, vectors_at, vectors_bytes};
 
 use crate::limits::{GROUP_ROWS, MAX_SEGMENTS, PAYLOAD_BYTES, VECTOR_ROWS};
-use crate::room::room_for;
+use crate::room::with_room;
 use dk_bytes::{Cursor, FieldError, put_u16, put_u32, put_u64};
 use dk_pages::{SegmentRef, SegmentRefs, VectorRefs};
 use dk_values::{List, OutOfMemory};
@@ -111,8 +111,7 @@ fn read_segments(
     ensures count { IfOk result (λ segments. vec_len segments ≡ count) }
     ensures behind { IsOk result → 0 < count → 2 ≤ cursor.new.at }
 {
-    let room = room_for(count as u64, cursor.left(), SEGMENT_REF_BYTES);
-    let mut segments = Vec::with_capacity(alloc, room)?;
+    let mut segments = with_room(alloc, count as u64, cursor.left(), SEGMENT_REF_BYTES)?;
     'segments: for _ in 0..count {
         let segment = read_segment(cursor)?;
         segments.push(segment)?;
@@ -176,8 +175,7 @@ fn read_each(
     ensures { Reads (λ vectors. vectors.items) result cursor.new
         (list_at (next_vector_at rows) count [] cursor.old) }
 {
-    let room = room_for(count as u64, cursor.left(), LEAST_VECTOR_BYTES);
-    let mut vectors = Vec::with_capacity(alloc, room)?;
+    let mut vectors = with_room(alloc, count as u64, cursor.left(), LEAST_VECTOR_BYTES)?;
     'vectors: for _ in 0..count {
         let vector = read_next(alloc, cursor, rows, vectors.as_slice())?;
         vectors.push(vector)?;

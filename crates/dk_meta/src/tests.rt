@@ -1,6 +1,7 @@
 //! Trees and pages that come back, the places of their faults, and a plain reader beside.
 mod chains;
 mod plain;
+mod values;
 
 use crate::{MetaError, read_page, read_tree, write_page, write_tree};
 use dk_bytes::{put_u8, put_u16, put_u32, put_u64};

@@ -8,7 +8,7 @@ ghost use Rattle.dk_meta.specs.Strings.{IsString, always, checked_at};
 ghost use Rattle.dk_meta.specs.Tree.{HasName, IsTree, entry_at, entry_bytes, group_at, group_ref_bytes, groups_at, groups_bytes, is_table_count, is_taken, new_name_at, tree_at, tree_bytes};
 
 use crate::limits::MAX_TABLES;
-use crate::room::room_for;
+use crate::room::with_room;
 use dk_bytes::{
     Cursor, FieldError, columns_len, put_columns, put_name, put_u16, put_u32, put_u64,
     read_columns, read_name,
@@ -44,8 +44,7 @@ fn read_each_group(
     ensures { Reads (λ groups. groups.items) result cursor.new
         (list_at (always group_at) count [] cursor.old) }
 {
-    let room = room_for(count, cursor.left(), GROUP_REF_BYTES);
-    let mut groups = Vec::with_capacity(alloc, room)?;
+    let mut groups = with_room(alloc, count, cursor.left(), GROUP_REF_BYTES)?;
     'groups: for _ in 0..count {
         let group = read_group(cursor)?;
         groups.push(group)?;
@@ -114,8 +113,7 @@ fn read_entries(
 ) -> Result<Vec<TableEntry>, FieldError>
     ensures { Reads (λ entries. entries.items) result cursor.new (list_at entry_at count [] cursor.old) }
 {
-    let room = room_for(count as u64, cursor.left(), LEAST_ENTRY_BYTES);
-    let mut entries = Vec::with_capacity(alloc, room)?;
+    let mut entries = with_room(alloc, count as u64, cursor.left(), LEAST_ENTRY_BYTES)?;
     'entries: for _ in 0..count {
         let entry = read_entry(alloc, cursor, entries.as_slice())?;
         entries.push(entry)?;
