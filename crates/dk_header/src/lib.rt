@@ -20,4 +20,4 @@ pub use header::{
     BODY_BYTES, CLOSED_GATE, Current, DbHeader, HEADER_BYTES, MOST_ITERATIONS, MainFault, NO_ROOT,
     OPEN_GATE, SUM_BYTES, VERSION,
 };
-pub use log::{LOG_HEADER_BYTES, log_header};
+pub use log::{LOG_HEADER_BYTES, LOG_MAGIC, log_header};

@@ -1,5 +1,5 @@
 -- Lists whose keys ascend, and whether two of them share a key.
-use Rattle.std.proofs.Common.{◌≡◌, ℕ, ◌+◌, ◌-◌, ◌<◌, Bool, true, false, ltb, eqb, List, [], ◌∷◌, ◌++◌, length, take, drop, get_or, Some, None, Option, refl, sym, ap, subst, ◌∙◌, append_assoc, length-append, arith, ◌||◌}
+use Rattle.std.proofs.Common.{◌≡◌, ℕ, ◌-◌, ◌<◌, Bool, true, false, ltb, eqb, List, [], ◌∷◌, ◌++◌, length, take, drop, get_or, Some, None, Option, refl, sym, ap, subst, ◌∙◌, append_assoc, length-append, arith}
 use Rattle.std.specs.Prelude.{slice_get}
 use Rattle.std.specs.List.{list_any, AllByRecursion}
 use Rattle.std.proofs.lemmas.Bool.{ltb-true}
@@ -12,7 +12,7 @@ use Rattle.dk_wal.specs.Ascending.{Ascends, first, itself}
 use Rattle.dk_wal.specs.Payload.{shares_id}
 
 -- one more thing that fits behind those before it
-follow_more : {A : Type 0} (Fits : List A → A → Type 0) (earlier xs : List A) (x : A) → AllFollow Fits earlier xs
+pub follow_more : {A : Type 0} (Fits : List A → A → Type 0) (earlier xs : List A) (x : A) → AllFollow Fits earlier xs
     → Fits (earlier ++ xs) x → AllFollow Fits earlier (xs ++ x ∷ [])
 follow_more Fits earlier [] x h k = (subst (λ (l : List _). Fits l x) (nil_behind earlier) k, tt)
   where

@@ -1,5 +1,5 @@
 -- Lengths that end at the greatest number of 64 bits.
-use Rattle.std.proofs.Common.{◌≡◌, ℕ, ◌+◌, ◌-◌, ◌*◌, ◌<◌, ◌≤◌, ◌^◌, List, [], ◌∷◌, ◌++◌, length, drop, Some, sym, ap, subst, ◌∙◌, length-append, arith}
+use Rattle.std.proofs.Common.{◌≡◌, ℕ, ◌+◌, ◌-◌, ◌*◌, ◌^◌, List, [], ◌∷◌, length, drop, Some, sym, ap, subst, ◌∙◌, length-append, arith}
 use Rattle.std.specs.Prelude.{min, slice_get}
 use Rattle.std.specs.List.{flat_map}
 use Rattle.dk_rows.proofs.RowLemmas.{drop_next}

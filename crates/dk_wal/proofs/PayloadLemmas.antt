@@ -1,16 +1,15 @@
 -- Payloads: what is read is spelled there, and what is spelled there is read.
-use Rattle.std.proofs.Common.{◌≡◌, ℕ, zero, suc, ◌+◌, ◌<◌, ◌^◌, Bool, true, false, cond, eqb, List, [], ◌∷◌, ◌++◌, length, Option, Some, None, Result, Ok, Err, refl, sym, ap, subst, ◌∙◌, append_assoc, append-nil, length-append, arith}
+use Rattle.std.proofs.Common.{◌≡◌, ℕ, suc, ◌+◌, Bool, true, false, cond, eqb, List, [], ◌++◌, length, Option, Some, Result, Ok, Err, refl, sym, ap, subst, ◌∙◌, append_assoc, append-nil, length-append, arith}
 use Rattle.std.specs.Prelude.{IfOk}
-use Rattle.std.specs.List.{flat_map}
 use Rattle.std.specs.Int.{w8, w16, w32, w64, to_le_bytes}
 use Rattle.std.proofs.lemmas.Bool.Decides.{Decides-eqb}
 use Rattle.dk_values.specs.Columns.{IsSchema}
 use Rattle.dk_values.specs.declared.column.Column.{Column}
 use Rattle.dk_values.specs.declared.value.Value.{Value}
 use Rattle.dk_bytes.specs.Fields.{IsBytes, Place, number_at}
-use Rattle.dk_bytes.specs.Reading.{◌>>=◌, or_fault, start, whole, Gives}
+use Rattle.dk_bytes.specs.Reading.{◌>>=◌, or_fault, start, Gives}
 use Rattle.dk_bytes.specs.ColumnFields.{IsName, name_bytes, name_at, columns_bytes, columns_at}
-use Rattle.dk_bytes.specs.RowFields.{IsRow, row_bytes, row_at}
+use Rattle.dk_bytes.specs.RowFields.{row_bytes, row_at}
 use Rattle.dk_bytes.specs.declared.field_error.FieldError.{FieldError}
 use Rattle.dk_bytes.proofs.NumberLemmas.{Takes, Takes-then, bind_ok, bind_at, chosen_ok, guard_ok, fault_none, wide8, wide16, wide32, wide64, number_takes, number_again, done, ok_is}
 use Rattle.dk_bytes.proofs.PlainValueLemmas.{after}

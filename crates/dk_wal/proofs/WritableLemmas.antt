@@ -1,7 +1,6 @@
 -- Every commit that is in the grammar with some tables has lengths and numbers that fit their fields.
-use Rattle.std.proofs.Common.{ℕ, ◌^◌, ◌<◌, List, [], ◌∷◌, ◌++◌, length}
+use Rattle.std.proofs.Common.{List, [], ◌∷◌, ◌++◌}
 use Rattle.std.specs.List.{AllByRecursion}
-use Rattle.std.specs.Int.{w16, w32}
 use Rattle.dk_values.specs.declared.column.Column.{Column}
 use Rattle.dk_values.specs.declared.value.ColType.{ColType}
 use Rattle.dk_values.specs.declared.value.ColType.TheVariants as types
@@ -34,7 +33,7 @@ short_row (column ∷ columns) [] h = absurd h
 short_row (column ∷ columns) (value ∷ row) h = (short_cell column.kind value h.0, short_row columns row h.1)
 
 -- what fits behind those before it has what follows from fitting
-all_of : {A : Type 0} (Fits : List A → A → Type 0) (P : A → Type 0)
+pub all_of : {A : Type 0} (Fits : List A → A → Type 0) (P : A → Type 0)
     → ((earlier : List A) (x : A) → Fits earlier x → P x) → (earlier xs : List A) → AllFollow Fits earlier xs
     → AllByRecursion P xs
 all_of Fits P k earlier [] h = tt

@@ -1,5 +1,5 @@
 -- Lists behind their number.
-use Rattle.std.specs.Prelude.{◌≡◌, ℕ, ◌<◌, ◌-◌, ◌^◌, Bool, true, List, [], ◌++◌, length, slice_get, Option, None, Some, Result, Ok, Err, nat_lt, if◌then◌else◌}
+use Rattle.std.specs.Prelude.{◌≡◌, ℕ, ◌<◌, ◌-◌, ◌^◌, Bool, true, List, [], ◌++◌, length, slice_get, None, Some, Result, Ok, Err, nat_lt, if◌then◌else◌}
 use Rattle.std.specs.List.{flat_map}
 use mir.Val.{bits}
 use Rattle.std.specs.Int.{Width, to_le_bytes}

@@ -3,3 +3,9 @@ pub mod Payload
 pub mod Writable
 pub mod Records
 pub mod Ascending
+pub mod LogReading
+pub mod Steps
+pub mod Logs
+pub mod Chance
+pub mod Crashes
+pub mod Weights

@@ -1,11 +1,10 @@
 -- The payload of a record of the log: a commit as bytes, which commits have some, and the reading of bytes as a commit.
 use Rattle.std.specs.Prelude.{◌≡◌, ℕ, ◌+◌, ◌<◌, ◌^◌, Bool, true, false, not, ◌&&◌, List, [], ◌∷◌, ◌++◌, length, slice_get, Option, Some, None, option_map, Result, Ok, Err, nat_lt, ◌==◌, bytes_eq, if◌then◌else◌}
-use Rattle.std.specs.List.{flat_map, list_any}
+use Rattle.std.specs.List.{list_any}
 use Rattle.std.specs.Int.{w8, w16, w32, w64, to_le_bytes}
 use Rattle.dk_values.specs.Columns.{IsSchema}
 use Rattle.dk_values.specs.declared.column.Column.{Column}
 use Rattle.dk_values.specs.declared.value.Value.{Value}
-use Rattle.dk_values.specs.declared.value.Value.TheVariants as values
 use Rattle.dk_bytes.specs.Fields.{Place, number_at}
 use Rattle.dk_bytes.specs.Reading.{◌>>=◌, or_fault, start, whole}
 use Rattle.dk_bytes.specs.ColumnFields.{IsName, name_bytes, name_at, columns_bytes, columns_at}

@@ -17,3 +17,9 @@ pub const MOST_PAYLOAD: u64 = 268_435_456;
 
 /// How many bytes stand before a record's payload: its length in four, and its checksum in eight.
 pub const FRAME_BYTES: usize = 12;
+
+/// Where the iteration stands in the header of the log.
+pub(crate) const ITERATION_PLACE: usize = 8;
+
+/// Where the checksum stands in the header of the log, behind all that it is of.
+pub(crate) const HEADER_SUM_PLACE: usize = 16;

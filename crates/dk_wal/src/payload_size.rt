@@ -7,11 +7,14 @@ ghost use Rattle.dk_rows.specs.Cells.{value_of};
 ghost use Rattle.dk_bytes.specs.RowFields.{cell_bytes, row_bytes};
 ghost use Rattle.dk_wal.specs.Counted.{counted};
 ghost use Rattle.dk_wal.specs.Payload.{id_bytes, update_bytes, table_bytes, payload_bytes};
+ghost use Rattle.dk_wal.specs.Weights.{HasWeight};
 
+use crate::part::len_each;
 use dk_bytes::columns_len;
 use dk_pages::{LogCommit, LogTable};
 use dk_rows::{Cell, RowRef, Rows};
 use dk_types::Row;
+use dk_values::Value;
 
 fn cell_len(cell: &Cell<'_>) -> u64
     ensures { result ≡ capped (length (cell_bytes (value_of cell.now))) }
@@ -24,6 +27,13 @@ fn cell_len(cell: &Cell<'_>) -> u64
         Cell::Text(text) => (text.len() as u64).saturating_add(3),
         Cell::Huge(_) => 1,
     }
+}
+
+/// The cell of a value.
+pub(crate) fn value_len(value: &Value) -> u64
+    ensures { result ≡ capped (length (cell_bytes value.now)) }
+{
+    cell_len(&Cell::of(value))
 }
 
 /// The cells of a row that is lent.
@@ -41,17 +51,11 @@ fn lent_len(row: &RowRef<'_>) -> u64
 fn row_len(row: &Row) -> u64
     ensures { result ≡ capped (length (row_bytes row.now)) }
 {
-    let mut len: u64 = 0;
-    let mut left = row.as_slice();
-    'cells: while let [value, rest @ ..] = left {
-        len = len.saturating_add(cell_len(&Cell::of(value)));
-        left = rest;
-    }
-    len
+    len_each(row.as_slice())
 }
 
 /// An update has its row's id in eight bytes, and the row.
-fn update_len(update: &(u64, Row)) -> u64
+pub(crate) fn update_len(update: &(u64, Row)) -> u64
     ensures { result ≡ capped (length (update_bytes update.now)) }
 {
     row_len(&update.1).saturating_add(8)
@@ -61,13 +65,7 @@ fn update_len(update: &(u64, Row)) -> u64
 fn updates_len(updates: &[(u64, Row)]) -> u64
     ensures { result ≡ capped (length (counted w32 update_bytes updates.now)) }
 {
-    let mut len: u64 = 4;
-    let mut left = updates;
-    'updates: while let [update, rest @ ..] = left {
-        len = len.saturating_add(update_len(update));
-        left = rest;
-    }
-    len
+    len_each(updates).saturating_add(4)
 }
 
 /// The ids, and their number.
@@ -89,7 +87,7 @@ fn rows_len(rows: &Rows) -> u64
 }
 
 /// What changed in a table.
-fn table_len(table: &LogTable) -> u64
+pub(crate) fn table_len(table: &LogTable) -> u64
     ensures { result ≡ capped (length (table_bytes table.now)) }
 {
     let changes = updates_len(table.updates.as_slice());
@@ -105,17 +103,11 @@ fn table_len(table: &LogTable) -> u64
 fn tables_len(tables: &[LogTable]) -> u64
     ensures { result ≡ capped (length (counted w16 table_bytes tables.now)) }
 {
-    let mut len: u64 = 2;
-    let mut left = tables;
-    'tables: while let [table, rest @ ..] = left {
-        len = len.saturating_add(table_len(table));
-        left = rest;
-    }
-    len
+    len_each(tables).saturating_add(2)
 }
 
 /// How many bytes the payload of a commit's record has. The greatest number of 64 bits stands for all above.
-pub fn payload_len(commit: &LogCommit) -> u64
+fn bytes_len(commit: &LogCommit) -> u64
     ensures { result ≡ capped (length (payload_bytes commit.now)) }
 {
     match commit {
@@ -127,4 +119,12 @@ pub fn payload_len(commit: &LogCommit) -> u64
         }
         LogCommit::Change { tables } => tables_len(tables.as_slice()).saturating_add(1),
     }
+}
+
+/// The same. Of a net's record they are as many as the machine says that the net weighs.
+pub fn payload_len(commit: &LogCommit) -> u64
+    ensures len { result ≡ capped (length (payload_bytes commit.now)) }
+    ensures weight { HasWeight commit.now result }
+{
+    bytes_len(commit)
 }

@@ -11,10 +11,12 @@ ghost use Rattle.dk_wal.specs.Payload.{id_bytes, update_bytes, table_bytes, payl
 ghost use Rattle.dk_wal.specs.Writable.{IsShort, AreShort, ShortUpdate, ShortTable, IsWritable};
 
 use crate::limits::{CHANGE_TAG, CREATE_TAG};
+use crate::part::put_each;
 use dk_bytes::{put_columns, put_name, put_u8, put_u16, put_u32, put_u64};
 use dk_pages::{LogCommit, LogTable};
 use dk_rows::{Cell, RowRef, Rows};
 use dk_types::{OutOfMemory, Row};
+use dk_values::Value;
 
 /// Appends a text behind a flag and its length.
 fn put_text(out: &mut Vec<u8>, text: &[u8]) -> Result<(), OutOfMemory>
@@ -50,6 +52,14 @@ fn put_cell(out: &mut Vec<u8>, cell: &Cell<'_>) -> Result<(), OutOfMemory>
     }
 }
 
+/// Appends the cell of a value.
+pub(crate) fn put_value(out: &mut Vec<u8>, value: &Value) -> Result<(), OutOfMemory>
+    requires { IsShort value.now }
+    ensures { OnOk result (out.new.items ≡ out.old.items ++ cell_bytes value.now) }
+{
+    put_cell(out, &Cell::of(value))
+}
+
 /// Appends the cells of a row that is lent.
 fn put_lent(out: &mut Vec<u8>, row: &RowRef<'_>) -> Result<(), OutOfMemory>
     requires { AreShort row.now }
@@ -66,16 +76,11 @@ fn put_row(out: &mut Vec<u8>, row: &Row) -> Result<(), OutOfMemory>
     requires { AreShort row.now }
     ensures { OnOk result (out.new.items ≡ out.old.items ++ row_bytes row.now) }
 {
-    let mut left = row.as_slice();
-    'cells: while let [value, rest @ ..] = left {
-        put_cell(out, &Cell::of(value))?;
-        left = rest;
-    }
-    Ok(())
+    put_each(out, row.as_slice())
 }
 
 /// Appends the id of a row and its new values.
-fn put_update(out: &mut Vec<u8>, update: &(u64, Row)) -> Result<(), OutOfMemory>
+pub(crate) fn put_update(out: &mut Vec<u8>, update: &(u64, Row)) -> Result<(), OutOfMemory>
     requires { AreShort update.now.1 }
     ensures { OnOk result (out.new.items ≡ out.old.items ++ update_bytes update.now) }
 {
@@ -90,12 +95,7 @@ fn put_updates(out: &mut Vec<u8>, updates: &[(u64, Row)]) -> Result<(), OutOfMem
     ensures { OnOk result (out.new.items ≡ out.old.items ++ counted w32 update_bytes updates.now) }
 {
     put_u32(out, updates.len() as u32)?;
-    let mut left = updates;
-    'updates: while let [update, rest @ ..] = left {
-        put_update(out, update)?;
-        left = rest;
-    }
-    Ok(())
+    put_each(out, updates)
 }
 
 /// Appends the number of ids, and the ids.
@@ -126,7 +126,7 @@ fn put_rows(out: &mut Vec<u8>, rows: &Rows) -> Result<(), OutOfMemory>
 }
 
 /// Appends what changed in a table.
-fn put_table(out: &mut Vec<u8>, table: &LogTable) -> Result<(), OutOfMemory>
+pub(crate) fn put_table(out: &mut Vec<u8>, table: &LogTable) -> Result<(), OutOfMemory>
     requires { ShortTable table.now }
     ensures { OnOk result (out.new.items ≡ out.old.items ++ table_bytes table.now) }
 {
@@ -144,12 +144,7 @@ fn put_tables(out: &mut Vec<u8>, tables: &[LogTable]) -> Result<(), OutOfMemory>
     ensures { OnOk result (out.new.items ≡ out.old.items ++ counted w16 table_bytes tables.now) }
 {
     put_u16(out, tables.len() as u16)?;
-    let mut left = tables;
-    'tables: while let [table, rest @ ..] = left {
-        put_table(out, table)?;
-        left = rest;
-    }
-    Ok(())
+    put_each(out, tables)
 }
 
 /// Appends the payload of a commit. Without memory a part may have been appended.

@@ -10,6 +10,7 @@ ghost use Rattle.dk_wal.specs.Counted.{is_behind, counted_at, any_number};
 ghost use Rattle.dk_wal.specs.Ascending.{Ascends, first, itself};
 ghost use Rattle.dk_wal.specs.Payload.{update_at, delete_at, deletes_at, root_at, tail_row_at, is_tail, columns_of, has_entries, is_named, may_create, are_tables, table_at, creation_at, change_at, commit_at, payload_read, IsPayload};
 
+use crate::each::{Next, read_each};
 use crate::limits::{CHANGE_TAG, CREATE_TAG, GROUP_ROWS, MAX_TABLES};
 use crate::shared_ids::shares_id;
 use dk_bytes::{Cursor, FieldError, read_columns, read_name, read_row};
@@ -69,22 +70,24 @@ fn read_update(
     Ok((id, row))
 }
 
-/// So many updates. No more room is taken than what is read asks for.
-fn read_each_update(
-    alloc: Global,
-    cursor: &mut Cursor,
-    columns: &Schema,
-    count: u32,
-) -> Result<Vec<(u64, Row)>, FieldError>
-    ensures reads { Reads (λ us. us.items) result cursor.new (list_at (update_at columns.now) count [] cursor.old) }
-    ensures ascends { IfOk result (λ us. Ascends first us.items) }
-{
-    let mut updates = Vec::new(alloc);
-    'updates: for _ in 0..count {
-        let update = read_update(alloc, cursor, columns, updates.as_slice())?;
-        updates.push(update)?;
+impl Next<Schema> for (u64, Row) {
+    ghost use Rattle.std.specs.Prelude.{◌≡◌, true};
+    ghost use Rattle.dk_wal.specs.Counted.{is_behind};
+    ghost use Rattle.dk_wal.specs.Ascending.{first};
+    ghost use Rattle.dk_wal.specs.Payload.{update_at};
+
+    ghost read_at = { update_at };
+
+    ghost fits_behind = { λ earlier u. is_behind first earlier (first u) ≡ true };
+
+    fn read_next(
+        alloc: Global,
+        cursor: &mut Cursor,
+        context: &Schema,
+        earlier: &[(u64, Row)],
+    ) -> Result<(u64, Row), FieldError> {
+        read_update(alloc, cursor, context, earlier)
     }
-    Ok(updates)
 }
 
 /// The updates behind their number.
@@ -99,7 +102,7 @@ fn read_updates(
     ensures ascends { IfOk result (λ us. Ascends first us.items) }
 {
     let count = cursor.u32()?;
-    read_each_update(alloc, cursor, columns, count)
+    read_each(alloc, cursor, columns, count)
 }
 
 /// The id that stands next, behind these.
@@ -116,17 +119,27 @@ fn read_delete(cursor: &mut Cursor, earlier: &[u64]) -> Result<u64, FieldError>
     Ok(id)
 }
 
-/// So many ascending ids.
-fn read_each_delete(alloc: Global, cursor: &mut Cursor, count: u32) -> Result<Vec<u64>, FieldError>
-    ensures reads { Reads (λ ids. ids.items) result cursor.new (list_at delete_at count [] cursor.old) }
-    ensures ascends { IfOk result (λ ids. Ascends itself ids.items) }
-{
-    let mut deletes = Vec::new(alloc);
-    'deletes: for _ in 0..count {
-        let id = read_delete(cursor, deletes.as_slice())?;
-        deletes.push(id)?;
+/// The ids of rows that went.
+struct Deletes;
+
+impl Next<Deletes> for u64 {
+    ghost use Rattle.std.specs.Prelude.{◌≡◌, true};
+    ghost use Rattle.dk_wal.specs.Counted.{is_behind};
+    ghost use Rattle.dk_wal.specs.Ascending.{itself};
+    ghost use Rattle.dk_wal.specs.Payload.{delete_at};
+
+    ghost read_at = { λ _. delete_at };
+
+    ghost fits_behind = { λ earlier id. is_behind itself earlier (itself id) ≡ true };
+
+    fn read_next(
+        _alloc: Global,
+        cursor: &mut Cursor,
+        _context: &Deletes,
+        earlier: &[u64],
+    ) -> Result<u64, FieldError> {
+        read_delete(cursor, earlier)
     }
-    Ok(deletes)
 }
 
 /// Ascending ids behind their number.
@@ -136,7 +149,7 @@ fn read_ids(alloc: Global, cursor: &mut Cursor) -> Result<Vec<u64>, FieldError>
     ensures ascends { IfOk result (λ ids. Ascends itself ids.items) }
 {
     let count = cursor.u32()?;
-    read_each_delete(alloc, cursor, count)
+    read_each(alloc, cursor, &Deletes, count)
 }
 
 /// The ids of the rows that went, none of which got new values.
@@ -164,16 +177,24 @@ fn read_root(cursor: &mut Cursor) -> Result<u64, FieldError>
     Ok(cursor.u64()?)
 }
 
-/// So many roots of pages.
-fn read_each_root(alloc: Global, cursor: &mut Cursor, count: u32) -> Result<Vec<u64>, FieldError>
-    ensures { Reads (λ roots. roots.items) result cursor.new (list_at root_at count [] cursor.old) }
-{
-    let mut roots = Vec::new(alloc);
-    'roots: for _ in 0..count {
-        let root = read_root(cursor)?;
-        roots.push(root)?;
+/// The roots of pages.
+struct Roots;
+
+impl Next<Roots> for u64 {
+    ghost use Rattle.dk_wal.specs.Payload.{root_at};
+
+    ghost read_at = { λ _. root_at };
+
+    ghost fits_behind = { λ _ _. Unit {0} };
+
+    fn read_next(
+        _alloc: Global,
+        cursor: &mut Cursor,
+        _context: &Roots,
+        _earlier: &[u64],
+    ) -> Result<u64, FieldError> {
+        read_root(cursor)
     }
-    Ok(roots)
 }
 
 /// The roots of the pages of full groups, behind their number.
@@ -182,7 +203,7 @@ fn read_roots(alloc: Global, cursor: &mut Cursor) -> Result<Vec<u64>, FieldError
     ensures { Reads (λ roots. roots.items) result cursor.new (counted_at w32 any_number root_at cursor.old) }
 {
     let count = cursor.u32()?;
-    read_each_root(alloc, cursor, count)
+    read_each(alloc, cursor, &Roots, count)
 }
 
 /// So many rows.
@@ -269,21 +290,21 @@ fn read_table(
     Ok(table)
 }
 
-/// So many tables.
-fn read_each_table(
-    alloc: Global,
-    cursor: &mut Cursor,
-    tables: &Tree,
-    count: u16,
-) -> Result<Vec<LogTable>, FieldError>
-    ensures { Reads (λ ts. ts.items) result cursor.new (list_at (table_at tables.now) count [] cursor.old) }
-{
-    let mut changed = Vec::new(alloc);
-    'tables: for _ in 0..count {
-        let table = read_table(alloc, cursor, tables, changed.as_slice())?;
-        changed.push(table)?;
+impl Next<Tree> for LogTable {
+    ghost use Rattle.dk_wal.specs.Payload.{table_at};
+
+    ghost read_at = { table_at };
+
+    ghost fits_behind = { λ _ _. Unit {0} };
+
+    fn read_next(
+        alloc: Global,
+        cursor: &mut Cursor,
+        context: &Tree,
+        earlier: &[LogTable],
+    ) -> Result<LogTable, FieldError> {
+        read_table(alloc, cursor, context, earlier)
     }
-    Ok(changed)
 }
 
 /// The tables behind their number.
@@ -301,7 +322,7 @@ fn read_tables(
     if count == 0 {
         return Err(FieldError::Malformed { at });
     }
-    read_each_table(alloc, cursor, tables, count)
+    read_each(alloc, cursor, tables, u32::from(count))
 }
 
 /// A change of rows, behind its tag.

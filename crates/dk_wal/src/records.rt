@@ -15,7 +15,7 @@ use dk_types::OutOfMemory;
 use std::alloc::Global;
 
 /// The checksum of a payload.
-fn sum_of(payload: &[u8]) -> u64
+pub(crate) fn sum_of(payload: &[u8]) -> u64
     ensures { result ≡ checksum_of payload.now }
 {
     checksum(payload)

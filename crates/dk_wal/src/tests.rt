@@ -8,12 +8,12 @@ use std::alloc::Global;
 use std::process::Abort;
 use std::test::*;
 
-fn bytes(alloc: Global, text: &[u8]) -> Result<Bytes, OutOfMemory> {
+pub(crate) fn bytes(alloc: Global, text: &[u8]) -> Result<Bytes, OutOfMemory> {
     Ok(List::from_vec(Vec::from_slice(alloc, text)?))
 }
 
 /// The columns `(a BIGINT)`.
-fn schema(alloc: Global) -> Result<Schema, Fail> {
+pub(crate) fn schema(alloc: Global) -> Result<Schema, Fail> {
     let column = Column {
         name: bytes(alloc, b"a")?,
         kind: ColType::Big,
@@ -22,7 +22,7 @@ fn schema(alloc: Global) -> Result<Schema, Fail> {
 }
 
 /// A tree of the one table `t (a BIGINT)`.
-fn one_table(alloc: Global) -> Result<Tree, Fail> {
+pub(crate) fn one_table(alloc: Global) -> Result<Tree, Fail> {
     let entry = TableEntry {
         name: bytes(alloc, b"t")?,
         schema: schema(alloc)?,
@@ -39,16 +39,16 @@ fn comes_back<R: AllocGlobal + Abort>(rt: &R, tables: &Tree, payload: &[u8]) -> 
 }
 
 /// The payload of `CREATE TABLE t (a BIGINT)`.
-const CREATION: [u8; 8] = [0, 1, 116, 1, 0, 2, 1, 97];
+pub(crate) const CREATION: [u8; 8] = [0, 1, 116, 1, 0, 2, 1, 97];
 
 /// The payload of `INSERT INTO t VALUES (1),(2)` on table 0.
-const INSERTION: [u8; 41] = [
+pub(crate) const INSERTION: [u8; 41] = [
     1, 1, 0, 0, 0, 0, 0, 0, 0, 0, 0, 0, 0, 0, 0, 0, 0, 0, 0, 2, 0, 0, 0, 1, 1, 0, 0, 0, 0, 0, 0, 0,
     1, 2, 0, 0, 0, 0, 0, 0, 0,
 ];
 
 /// An update of row 3, a delete of row 5, a group at block 9 and a row that is null, on table 0.
-const CHANGE: [u8; 57] = [
+pub(crate) const CHANGE: [u8; 57] = [
     1, 1, 0, 0, 0, 0, 0, 1, 0, 0, 0, 3, 0, 0, 0, 0, 0, 0, 0, 1, 7, 0, 0, 0, 0, 0, 0, 0, 1, 0, 0, 0,
     5, 0, 0, 0, 0, 0, 0, 0, 1, 0, 0, 0, 9, 0, 0, 0, 0, 0, 0, 0, 1, 0, 0, 0, 0,
 ];
