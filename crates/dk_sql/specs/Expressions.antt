@@ -129,7 +129,10 @@ comparison_in (b ∷ rest) =
 
 -- + | -
 abbrev pub sum_after : List ℕ → Option (Op × List ℕ)
-sum_after text = elim (mark_after 43 text) [ Some rest ↦ Some (op.Add, rest) | None ↦ as_op op.Sub (mark_after 45 text) ]
+sum_after text = elim (mark_after 43 text) [
+  | Some rest ↦ Some (op.Add, rest)
+  | None ↦ as_op op.Sub (mark_after 45 text)
+]
 
 -- the operator of a rule, where it stands next
 abbrev pub operator_after : Rule → List ℕ → Option (Op × List ℕ)
@@ -179,7 +182,8 @@ abbrev pub joined : Reading → Expr → Operator → Reading
 joined operand left operator p = operand p >>= λ right. Ok (two operator left right.0, right.1)
 
 -- behind an operator, where one was found
-abbrev pub goes_on : (Expr → Reading) → Reading → Expr → Point → Option (Operator × Point) → Outcome (Expr × Point)
+abbrev pub goes_on : (Expr → Reading) → Reading → Expr → Point → Option (Operator × Point)
+    → Outcome (Expr × Point)
 goes_on others operand left p None = Ok (left, p)
 goes_on others operand left p (Some found) =
     joined operand left found.0 found.1 >>= λ all. others all.0 all.1
@@ -214,7 +218,10 @@ is_at whole left p rest = do
 
 -- [ IS [ NOT ] NULL ]
 abbrev pub maybe_null : ℕ → Expr → Reading
-maybe_null whole left p = elim (keyword_after (codes "is") p.text) [ None ↦ Ok (left, p) | Some rest ↦ is_at whole left p rest ]
+maybe_null whole left p = elim (keyword_after (codes "is") p.text) [
+  | None ↦ Ok (left, p)
+  | Some rest ↦ is_at whole left p rest
+]
 
 abbrev pub compared : ℕ → Reading → Expr → Point → Option (Operator × Point) → Outcome (Expr × Point)
 compared whole operand left p None = maybe_null whole left p
@@ -267,11 +274,17 @@ enclosed_in inner p rest = do
 
 -- literal | name | ( expr )
 abbrev pub unsigned_in : ℕ → Inner → Reading
-unsigned_in whole inner p = elim (mark_after 40 p.text) [ None ↦ leaf_at whole p | Some rest ↦ enclosed_in inner p rest ]
+unsigned_in whole inner p = elim (mark_after 40 p.text) [
+  | None ↦ leaf_at whole p
+  | Some rest ↦ enclosed_in inner p rest
+]
 
 -- - unary | literal | name | ( expr )
 unfoldable pub unary_in : ℕ → Inner → Reading
-unary_in whole inner p = elim (mark_after 45 p.text) [ None ↦ unsigned_in whole inner p | Some rest ↦ signed_in whole inner p rest ]
+unary_in whole inner p = elim (mark_after 45 p.text) [
+  | None ↦ unsigned_in whole inner p
+  | Some rest ↦ signed_in whole inner p rest
+]
 
 -- unary { * unary }
 abbrev pub product_in : ℕ → Inner → Reading

@@ -379,7 +379,8 @@ fn negative_number<'a>(
     rest: &'a [u8],
 ) -> Result<(Expr, Cursor<'a>), Stop>
     requires { length cursor.text.now ≤ scope.whole }
-    ensures exact { Gives (λ x. (x.0, point_of x.1)) result (negative_of scope.whole (point_of cursor.entry) rest.now) }
+    ensures exact { Gives (λ x. (x.0, point_of x.1)) result
+        (negative_of scope.whole (point_of cursor.entry) rest.now) }
     ensures within { IfOk result (λ x. length x.1.text.now ≤ length rest.now) }
     ensures fewer { IfOk result (λ x. x.1.operators ≤ cursor.entry.operators) }
 {

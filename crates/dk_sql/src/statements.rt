@@ -215,20 +215,20 @@ fn single<'a>(word: &[u8], text: &[u8], rest: &'a [u8]) -> Result<(Statement, &'
 /// The statement that begins with this word, in front of the text, and goes on in the rest.
 fn statement_by<'a>(
     scope: Scope,
-    data: &[u8],
+    stdin: &[u8],
     word: &[u8],
     text: &[u8],
     rest: &'a [u8],
 ) -> Result<(Statement, &'a [u8]), Stop>
     requires { length rest.now ≤ scope.whole }
-    ensures { Gives (λ x. (x.0, x.1.now)) result (statement_by scope.whole data.now word.now text.now rest.now) }
+    ensures { Gives (λ x. (x.0, x.1.now)) result (statement_by scope.whole stdin.now word.now text.now rest.now) }
 {
     if is_same_word(word, b"create") {
         create(scope, rest)
     } else if is_same_word(word, b"insert") {
         insert(scope, rest)
     } else if is_same_word(word, b"copy") {
-        copy(scope, data, rest)
+        copy(scope, stdin, rest)
     } else if is_same_word(word, b"select") {
         select(scope, rest)
     } else if is_same_word(word, b"update") {
@@ -242,12 +242,12 @@ fn statement_by<'a>(
 
 /// A statement, and the rest.
 #[tactic(auto, unfolding(crate::specs::Statements::statement_at))]
-fn statement<'a>(scope: Scope, data: &[u8], text: &'a [u8]) -> Result<(Statement, &'a [u8]), Stop>
+fn statement<'a>(scope: Scope, stdin: &[u8], text: &'a [u8]) -> Result<(Statement, &'a [u8]), Stop>
     requires { length text.now ≤ scope.whole }
-    ensures { Gives (λ x. (x.0, x.1.now)) result (statement_at scope.whole data.now text.now) }
+    ensures { Gives (λ x. (x.0, x.1.now)) result (statement_at scope.whole stdin.now text.now) }
 {
     let (word, rest) = word(text)?;
-    statement_by(scope, data, word, text, rest)
+    statement_by(scope, stdin, word, text, rest)
 }
 
 /// The statement, where only blanks are left behind it.
@@ -262,15 +262,15 @@ fn at_end(statement: Statement, text: &[u8]) -> Result<Statement, Stop>
 }
 
 /// The statement that the whole text is.
-fn whole(alloc: Global, text: &[u8], data: &[u8]) -> Result<Statement, Stop>
+fn whole(alloc: Global, text: &[u8], stdin: &[u8]) -> Result<Statement, Stop>
     requires { length text.now < 2 ^ 32 }
-    ensures { Gives (λ x. x) result (whole_at text.now data.now) }
+    ensures { Gives (λ x. x) result (whole_at text.now stdin.now) }
 {
     let scope = Scope {
         alloc,
         whole: text.len() as u32,
     };
-    let (statement, rest) = statement(scope, data, text)?;
+    let (statement, rest) = statement(scope, stdin, text)?;
     at_end(statement, rest)
 }
 
