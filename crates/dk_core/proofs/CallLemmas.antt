@@ -48,7 +48,7 @@ use Rattle.dk_core.proofs.Invariant.{core_with, stands_well, moved, allows_so, H
 use Rattle.dk_core.proofs.StepLemmas.{found, call_step, begin_step, not_so, writes_is}
 use Rattle.dk_core.proofs.HolderLemmas.{held_now, least_passes, writes_parts}
 use Rattle.dk_core.proofs.MoveLemmas.{Moved, stays}
-use Rattle.dk_core.proofs.ChangeLemmas.{by_change, unmoved, seen_alone, least_fails, part_ids, part_goes, version_own, alone_but}
+use Rattle.dk_core.proofs.ChangeLemmas.{of_change, unmoved, seen_alone, least_fails, part_ids, version_own, alone_but}
 use Rattle.dk_types.specs.declared.reply.Refusal.TheVariants as why
 use Rattle.dk_si.specs.declared.history.Entry.TheVariants as history
 use Rattle.dk_si.specs.declared.machine.Transaction.TheVariants as state
@@ -223,27 +223,27 @@ change_by core fits number active asked touched past seat part above is at there
     fits.is_now fits.steps fits.whole fits.numbers (set_length core.seats (number - 1) new ∙ fits.even)
     (set_length core.seats (number - 1) new ∙ fits.count)
 
-change_open : (core : Core) → Fits core → (number : ℕ) (at : VectorId) (part : TableNet) (transaction : Transaction)
-    (asked : Option Asked) (touched : Option WriteSet) (past : Option LastTransaction) (seat : Seat) → 0 < number
-    → session_at core.now.sessions number ≡ Some (session_of transaction asked touched past)
-    → slice_get core.now.sessions (number - 1) ≡ Some (session_of transaction asked touched past)
-    → slice_get core.seats (number - 1) ≡ Some seat
-    → may.may_change core at part (session_of transaction asked touched past) seat ≡ true
-    → Fits (core_with core core.entries core.now
-    (slice_set core.seats (number - 1) (does.seat_after_change core number part seat)))
-change_open core fits number at part transaction asked touched past seat above is here there passes =
-    by_change core at part touched past seat
-    (λ transaction asked. session_at core.now.sessions number ≡ Some (session_of transaction asked touched past)
-    → slice_get core.now.sessions (number - 1) ≡ Some (session_of transaction asked touched past)
-    → Fits (core_with core core.entries core.now
-    (slice_set core.seats (number - 1) (does.seat_after_change core number part seat))))
-    (λ active asked so is here.
-    let n = committed_count core.opened core.now.commits active part.table in
-    let meaning = meaning_in core.opened core.now.commits active asked in
-    let fine = (and_parts _ (is_fresh_part n seat.made meaning part) so).1 in
-    let sits = fits.sit (number - 1) (session_of (state.Open active) (Some asked) touched past) seat here there in
-    let linked = sits.links.1 (part_goes core active asked seat.made part n fine) in
-    subst (λ new. Fits (core_with core core.entries core.now (slice_set core.seats (number - 1) new)))
+-- a Change keeps the invariant
+pub change_keeps : (core : Core) → Fits core → (number : ℕ) (at : VectorId) (part : TableNet)
+    → may.at_session core number (may.may_change core at part) ≡ true
+    → Fits (moved core (event.Change number at part))
+change_keeps core fits number at part allowed =
+    let f = found core number (may.may_change core at part) allowed in
+    let seat = f.seat in
+    let Kept : Seat → Type 0 = λ new. Fits (core_with core core.entries core.now
+    (slice_set core.seats (number - 1) new)) in
+    subst (λ found. Fits (core_with core core.entries core.now (elim found as (λ x. List Seat) [
+      | None ↦ core.seats
+      | Some seat ↦ slice_set core.seats (number - 1) (does.seat_after_change core number part seat)
+    ]))) (sym f.seat_is)
+    (of_change core number at part f
+    (λ transaction asked.
+    session_at core.now.sessions number ≡ Some (session_of transaction asked f.session.writes f.session.last)
+    → Kept (does.seat_after_change core number part seat))
+    (λ active asked here kind fresh goes is.
+    let session = session_of (state.Open active) (Some asked) f.session.writes f.session.last in
+    let linked = (fits.sit (number - 1) session seat here f.seat_there).links.1 goes in
+    subst Kept
     (sym (ap (λ found. elim found as (λ x. Seat) [
       | None ↦ seat
       | Some live ↦ elim (conflict core number live.start part) as (λ x. Seat) [
@@ -251,23 +251,9 @@ change_open core fits number at part transaction asked touched past seat above i
         | Some refusal ↦ record seat { found = Some refusal }
       ]
     ]) linked))
-    (change_by core fits number active asked touched past seat part above is here there fine
-    (least_where (is_unseen core number active.start part.table) (changed_ids part)) refl))
-    transaction asked passes is here
-
--- a Change keeps the invariant
-pub change_keeps : (core : Core) → Fits core → (number : ℕ) (at : VectorId) (part : TableNet)
-    → may.at_session core number (may.may_change core at part) ≡ true
-    → Fits (moved core (event.Change number at part))
-change_keeps core fits number at part allowed =
-    let f = found core number (may.may_change core at part) allowed in
-    let s = f.session in
-    subst (λ found. Fits (core_with core core.entries core.now (elim found as (λ x. List Seat) [
-      | None ↦ core.seats
-      | Some seat ↦ slice_set core.seats (number - 1) (does.seat_after_change core number part seat)
-    ]))) (sym f.seat_is)
-    (change_open core fits number at part s.transaction s.asked s.writes s.last f.seat f.above f.session_is
-    f.session_there f.seat_there f.passes)
+    (change_by core fits number active asked f.session.writes f.session.last seat part f.above is here f.seat_there
+    fresh (least_where (is_unseen core number active.start part.table) (changed_ids part)) refl))
+    f.session_is)
 
 -- an entry of one session makes no difference to what was so since another's call
 was_so_still : (test : Machine → Bool) (core : Core) (number : ℕ) (entry : Entry) → is_call_of number entry ≡ false

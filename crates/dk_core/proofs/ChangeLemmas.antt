@@ -2,7 +2,7 @@
 use Rattle.dk_core.specs.Allows as may
 use Rattle.dk_core.specs.Layout.{groups_of}
 use Rattle.dk_types.specs.declared.vector.VectorId.{VectorId}
-use Rattle.dk_core.specs.Changes.{has_update, is_part_of, is_meant, are_fresh_rows, is_change_of, is_fresh_part}
+use Rattle.dk_core.specs.Changes.{has_update, is_one_kind, is_part_of, is_meant, are_fresh_rows, is_change_of, is_fresh_part}
 use Rattle.dk_syntax.specs.declared.statement.Statement.{Statement}
 use Rattle.dk_si.specs.Machine.{kind_of}
 use Rattle.std.proofs.Common.{arith, ◌≡◌, ◌⊎◌, inl, inr, ⊎_elim, ℕ, zero, suc, ◌-◌, ◌<◌, Bool, true, false, List, [], ◌∷◌, map, length, Option, Some, None, ap, ◌∙◌, sym, refl, subst, slice_get, slice_set}
@@ -35,7 +35,7 @@ use Rattle.dk_core.specs.Core.{Core, all_but, unstamped}
 use Rattle.dk_core.specs.Findings.{writer_in, writer_among, is_unseen}
 use Rattle.dk_si.proofs.TransitionLemmas.{session_of}
 use Rattle.dk_core.proofs.Invariant.{Has, Alone, ClaimsOpen, Sits, Fits}
-use Rattle.dk_core.proofs.StepLemmas.{live_of}
+use Rattle.dk_core.proofs.StepLemmas.{Found, live_of}
 use Rattle.dk_core.proofs.HolderLemmas.{into_but, no_writer}
 use Rattle.dk_core.proofs.MoveLemmas.{Moved}
 use Rattle.dk_syntax.specs.declared.statement.Statement.TheVariants as ask
@@ -238,7 +238,7 @@ rolls_nothing core active ask.Commit is = absurd (false≢true is)
 rolls_nothing core active ask.Checkpoint is = absurd (false≢true is)
 
 -- a statement that changes rows is no ROLLBACK
-pub part_goes : (core : Core) (active : OpenTransaction) (asked : Asked) (made : List TableNet) (part : TableNet)
+part_goes : (core : Core) (active : OpenTransaction) (asked : Asked) (made : List TableNet) (part : TableNet)
     (n : ℕ)
     → is_fresh_part n made (meaning_in core.opened core.now.commits active asked) part ≡ true
     → not (asks_for is_rollback (Some asked)) ≡ true
@@ -251,7 +251,7 @@ part_goes core active (Good statement) made part n is = ⊎_elim
     (cases_Bool (is_rollback (kind_of statement)))
 
 -- a session that may make a Change is in an open transaction, and has a call in flight that means it
-pub by_change : (core : Core) (at : VectorId) (part : TableNet) (touched : Option WriteSet) (past : Option LastTransaction)
+by_change : (core : Core) (at : VectorId) (part : TableNet) (touched : Option WriteSet) (past : Option LastTransaction)
     (seat : Seat) (P : Transaction → Option Asked → Type 0)
     → ((active : OpenTransaction) (asked : Asked)
     → is_change_of (groups_of core.layout part.table)
@@ -267,6 +267,31 @@ by_change core at part touched past seat P by (state.Open active) (Some asked) p
     by active asked (and_parts _ (is_change_of (groups_of core.layout part.table)
     (committed_count core.opened core.now.commits active part.table) seat.made
     (meaning_in core.opened core.now.commits active asked) at part) passes).1
+
+-- the session of a Change is in an open transaction, and its call in flight means the change and is no ROLLBACK
+pub of_change : (core : Core) (number : ℕ) (at : VectorId) (part : TableNet)
+    (f : Found core number (may.may_change core at part)) (P : Transaction → Option Asked → Type 0)
+    → ((active : OpenTransaction) (asked : Asked)
+    → slice_get core.now.sessions (number - 1)
+    ≡ Some (session_of (state.Open active) (Some asked) f.session.writes f.session.last)
+    → is_one_kind part ≡ true
+    → is_fresh_part (committed_count core.opened core.now.commits active part.table) f.seat.made
+    (meaning_in core.opened core.now.commits active asked) part ≡ true
+    → not (asks_for is_rollback (Some asked)) ≡ true → P (state.Open active) (Some asked))
+    → P f.session.transaction f.session.asked
+of_change core number at part f P by =
+    let writes = f.session.writes in
+    let last = f.session.last in
+    by_change core at part writes last f.seat
+    (λ transaction asked. slice_get core.now.sessions (number - 1) ≡ Some (session_of transaction asked writes last)
+    → P transaction asked)
+    (λ active asked is here.
+    let n = committed_count core.opened core.now.commits active part.table in
+    let meaning = meaning_in core.opened core.now.commits active asked in
+    let h = and_parts _ (is_fresh_part n f.seat.made meaning part) is in
+    by active asked here (and_parts (is_one_kind part) _ h.0).0 h.1
+    (part_goes core active asked f.seat.made part n h.1))
+    f.session.transaction f.session.asked f.passes f.session_there
 
 one_there : {T : Type 0} → (xs : List T) (k place : ℕ) (a b : T) → k ≡ place → slice_get xs place ≡ Some a
     → slice_get xs k ≡ Some b → a ≡ b

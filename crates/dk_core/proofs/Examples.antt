@@ -17,7 +17,7 @@ use Rattle.dk_types.specs.declared.reply.Holder.TheVariants as holder
 use Rattle.dk_si.specs.declared.database.Table.{Table}
 use Rattle.dk_si.specs.declared.history.Asked.TheVariants.{Good}
 use Rattle.dk_si.specs.IsLegal.{is_legal}
-use Rattle.dk_si.specs.LawfulCalls.{is_lawful, is_lawful_expr, lawful_node, lawful_place}
+use Rattle.dk_syntax.specs.LawfulStatements.{is_lawful, is_lawful_expr, lawful_node, lawful_place}
 use Rattle.dk_si.specs.Machine.{session_at}
 use Rattle.dk_values.specs.Names.{is_name}
 use Rattle.std.specs.List.{list_all}

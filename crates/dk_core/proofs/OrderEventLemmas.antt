@@ -33,9 +33,9 @@ use Rattle.dk_core.specs.Findings.{is_full, spent_numbers}
 use Rattle.dk_core.specs.Laws.{core_after, all_allowed, OrderedOverEveryList}
 use Rattle.dk_core.specs.Versions.{is_deleted_by, is_ordered}
 use Rattle.dk_core.proofs.Invariant.{with_change, Fits, core_with, moved}
-use Rattle.dk_core.proofs.ChangeLemmas.{by_change, part_ids, part_below, part_goes, part_writes, in_ids}
+use Rattle.dk_core.proofs.ChangeLemmas.{of_change, part_ids, part_below, part_writes, in_ids}
 use Rattle.dk_core.proofs.LegalLemmas.{Sound, step_keeps, first_sound}
-use Rattle.dk_core.proofs.PointLemmas.{Points, points}
+use Rattle.dk_core.proofs.PointLemmas.{Points, commit_found}
 use Rattle.dk_core.proofs.SeatLemmas.{goes_uncommitted}
 use Rattle.dk_core.proofs.StepLemmas.{Found, found, made_has, not_so}
 use Rattle.dk_types.specs.Nets.{IsNet}
@@ -167,18 +167,14 @@ change_deleted : (core : Core) → Fits core → Deleted core → (number : ℕ)
 change_deleted core fits deleted number at part f =
     let seat = f.seat in
     let there = f.seat_there in
-    let touched = f.session.writes in
-    let past = f.session.last in
-    by_change core at part touched past seat
-    (λ transaction asked. slice_get core.now.sessions (number - 1) ≡ Some (session_of transaction asked touched past)
-    → ((table row : ℕ) → is_ordered table row (unstamped (does.seat_after_change core number part seat)) ≡ true)
+    of_change core number at part f
+    (λ transaction asked.
+    ((table row : ℕ) → is_ordered table row (unstamped (does.seat_after_change core number part seat)) ≡ true)
     × KnownBy core.opened core.now.commits (does.seat_after_change core number part seat) asked transaction)
-    (λ active asked is here.
+    (λ active asked here kind fresh goes.
     let n = committed_count core.opened core.now.commits active part.table in
     let meaning = meaning_in core.opened core.now.commits active asked in
-    let session = session_of (state.Open active) (Some asked) touched past in
-    let h = and_parts _ (is_fresh_part n seat.made meaning part) is in
-    let goes = part_goes core active asked seat.made part n h.1 in
+    let session = session_of (state.Open active) (Some asked) f.session.writes f.session.last in
     let known = deleted.known (number - 1) session seat here there in
     let ordered : (table row : ℕ) → is_ordered table row (unstamped seat) ≡ true =
     λ table row. deleted.ordered (number - 1) seat table row there in
@@ -187,17 +183,16 @@ change_deleted core fits deleted number at part f =
     (Some asked) (state.Open active)) core number part seat
     (ordered, known) (
       (λ table row. change_ordered core seat active asked part table row
-          (fits.sit (number - 1) session seat here there).lawful h.1 (known goes).0 (ordered table row)),
+          (fits.sit (number - 1) session seat here there).lawful fresh (known goes).0 (ordered table row)),
       (λ on. (
         (known goes).0,
         (λ table row gone. ⊎_elim
-            (λ p. part_deletes n seat.made part meaning table row h.1 p)
+            (λ p. part_deletes n seat.made part meaning table row fresh p)
             (λ p. (known goes).1 table row p)
             (or_cases (part.table == table && has_id part.deletes row) (is_deleted_by table row seat.made) gone)),
       )),
     )
     (λ refusal. (ordered, known)))
-    f.session.transaction f.session.asked f.passes f.session_there
 
 -- the seat behind an Append or an Adopt
 appended_ordered : (own table row : ℕ) (rows : List (List Value)) (parts : List TableNet)
@@ -447,38 +442,28 @@ commit_ordered core number reply seat p table row ordered =
     ]) p.has_live))
     ordered
 
-commit_deleted : (core : Core) → Fits core → Deleted core → (event : Event) (number : ℕ) (reply : Reply) (seat : Seat)
-    → entry_of core event ≡ Some (history.Reply number reply) → seat_at core.seats number ≡ Some seat
-    → slice_get core.seats (number - 1) ≡ Some seat
-    → Points core number reply seat
-    → Deleted
-    (core_with core (entries_after core event) (state_with core (entry_of core event))
-    (with_change core number (does.seat_after_commit core)))
-commit_deleted core fits deleted event number reply seat entry is there p =
-    let now = state_with core (entry_of core event) in
-    let same : now ≡ next core.opened core.now (history.Reply number reply) = ap (λ e. state_with core e) entry in
-    with_seat_deleted core fits deleted (entries_after core event) now number seat (does.seat_after_commit core) is
-    (grown_with core (entry_of core event))
-    (λ k s at. ⊎_elim
-    (λ h. inl
-    (h.0, outside_known core.opened now.commits (does.seat_after_commit core seat) s.asked s.transaction h.1))
-    (λ h. inr h)
-    (p.closed k s (subst (λ machine. slice_get machine.sessions k ≡ Some s) same at)))
-    (λ table row. commit_ordered core number reply seat p table row
-    (deleted.ordered (number - 1) seat table row there))
-
 -- the core behind an event that is allowed as a commit of this reply
-commits_deleted : (core : Core) → Fits core → Deleted core → (event : Event) (number : ℕ) (reply : Reply)
+commit_deleted : (core : Core) → Fits core → Deleted core → (event : Event) (number : ℕ) (reply : Reply)
     (test : Session → Seat → Bool) (also : Bool) → is_commit reply ≡ true
     → entry_of core event ≡ Some (history.Reply number reply)
     → ((session : Session) (seat : Seat) → test session seat ≡ true → may_commit core reply session seat ≡ true)
     → (may.at_session core number test && also) ≡ true
     → Deleted (core_with core (entries_after core event) (state_with core (entry_of core event))
     (with_change core number (does.seat_after_commit core)))
-commits_deleted core fits deleted event number reply test also commits entry tells allowed =
-    let f = found core number test (and_parts (may.at_session core number test) also allowed).0 in
-    commit_deleted core fits deleted event number reply f.seat entry f.seat_is f.seat_there
-    (points core fits number reply test commits tells f)
+commit_deleted core fits deleted event number reply test also commits entry tells allowed =
+    let found = commit_found core fits number reply test also commits tells allowed in
+    let seat = found.0.seat in
+    let now = state_with core (entry_of core event) in
+    let same : now ≡ next core.opened core.now (history.Reply number reply) = ap (λ e. state_with core e) entry in
+    with_seat_deleted core fits deleted (entries_after core event) now number seat (does.seat_after_commit core)
+    found.0.seat_is (grown_with core (entry_of core event))
+    (λ k s at. ⊎_elim
+    (λ h. inl
+    (h.0, outside_known core.opened now.commits (does.seat_after_commit core seat) s.asked s.transaction h.1))
+    (λ h. inr h)
+    (found.1.closed k s (subst (λ machine. slice_get machine.sessions k ≡ Some s) same at)))
+    (λ table row. commit_ordered core number reply seat found.1 table row
+    (deleted.ordered (number - 1) seat table row found.0.seat_there))
 
 begin_deleted : (core : Core) → Fits core → Deleted core
     → (number : ℕ) (f : Found core number may.may_begin) (full : Bool)
@@ -586,13 +571,13 @@ event_deleted core fits deleted (event.Point number (done.Create name schema) mo
     (deleted.known (number - 1) f.session f.seat f.session_there f.seat_there))
     (λ t row. deleted.ordered (number - 1) f.seat t row f.seat_there)
 event_deleted core fits deleted (event.Point number done.Created moment) allowed =
-    commits_deleted core fits deleted (event.Point number done.Created moment) number (told.Created (next_receipt core.now moment))
+    commit_deleted core fits deleted (event.Point number done.Created moment) number (told.Created (next_receipt core.now moment))
     (may_point core done.Created moment) _ refl refl (λ session seat passes. (and_parts (is_some seat.creates) _ passes).1) allowed
 event_deleted core fits deleted (event.Point number (done.Changed count) moment) allowed =
-    commits_deleted core fits deleted (event.Point number (done.Changed count) moment) number (told.Changed count (Some (next_receipt core.now moment)))
+    commit_deleted core fits deleted (event.Point number (done.Changed count) moment) number (told.Changed count (Some (next_receipt core.now moment)))
     (may_point core (done.Changed count) moment) _ refl refl (λ session seat passes. (and_parts (is_none seat.creates) _ passes).1) allowed
 event_deleted core fits deleted (event.Point number done.Commit moment) allowed =
-    commits_deleted core fits deleted (event.Point number done.Commit moment) number (told.Committed (next_receipt core.now moment))
+    commit_deleted core fits deleted (event.Point number done.Commit moment) number (told.Committed (next_receipt core.now moment))
     (may_point core done.Commit moment) _ refl refl (λ session seat passes. (and_parts (is_none seat.creates) _ passes).1) allowed
 event_deleted core fits deleted (event.Stamp number) allowed =
     let f = found core number may.may_stamp allowed in

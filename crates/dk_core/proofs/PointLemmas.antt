@@ -194,7 +194,7 @@ points_open core fits number reply (state.Open active) (Some asked) touched past
           found));
     }
 
-pub points : (core : Core) → Fits core → (number : ℕ) (reply : Reply) (test : Session → Seat → Bool)
+points : (core : Core) → Fits core → (number : ℕ) (reply : Reply) (test : Session → Seat → Bool)
     → is_commit reply ≡ true
     → ((session : Session) (seat : Seat) → test session seat ≡ true
     → in_commits.may_commit core reply session seat ≡ true)
@@ -203,6 +203,17 @@ points core fits number reply test commits tells f =
     points_open core fits number reply f.session.transaction f.session.asked f.session.writes f.session.last f.seat
     f.session_is f.session_there f.seat_there commits
     (tells f.session f.seat f.passes)
+
+-- the seat of an event that is allowed as a commit of this reply
+pub commit_found : (core : Core) → Fits core → (number : ℕ) (reply : Reply) (test : Session → Seat → Bool) (also : Bool)
+    → is_commit reply ≡ true
+    → ((session : Session) (seat : Seat) → test session seat ≡ true
+    → in_commits.may_commit core reply session seat ≡ true)
+    → (may.at_session core number test && also) ≡ true
+    → (f : Found core number test) × Points core number reply f.seat
+commit_found core fits number reply test also commits tells allowed =
+    let f = found core number test (and_parts (may.at_session core number test) also allowed).0 in
+    (f, points core fits number reply test commits tells f)
 
 -- the seat behind its Point
 abbrev pub pointed_from : Core → Seat → Snapshot → Seat

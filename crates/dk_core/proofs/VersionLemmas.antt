@@ -41,8 +41,8 @@ use Rattle.dk_core.specs.declared.event.Event.TheVariants as event
 use Rattle.dk_core.specs.declared.seat.Seat.{Seat}
 use Rattle.dk_core.specs.declared.seat.Snapshot.{Snapshot}
 use Rattle.dk_core.specs.Allows as may
-use Rattle.dk_core.specs.Changes.{is_one_kind, is_fresh_part}
-use Rattle.dk_core.specs.Commits.{is_commit_kind, commits_now, is_placing, are_next_rows, may_append, may_adopt, may_point}
+use Rattle.dk_si.specs.ReplyTests.{is_commit}
+use Rattle.dk_core.specs.Commits.{is_commit_kind, commits_now, is_placing, are_next_rows, may_append, may_adopt, may_commit, may_point}
 use Rattle.dk_core.specs.Core.{Core, no_seat, first_core, seat_at, all_but, unstamped, next_snapshot, next_receipt}
 use Rattle.dk_core.specs.Entries.{entry_of, with_entry, entries_after, state_with}
 use Rattle.dk_core.specs.Findings.{conflict, is_full, spent_numbers}
@@ -50,10 +50,10 @@ use Rattle.dk_core.specs.Laws.{core_after, all_allowed, VersionsOverEveryList}
 use Rattle.dk_core.specs.Step as does
 use Rattle.dk_core.specs.Versions.{HasSnapshot, Numbered, Placed}
 use Rattle.dk_core.proofs.Invariant.{with_change, Has, Fits, core_with, moved}
-use Rattle.dk_core.proofs.ChangeLemmas.{by_change, some_live, part_below, part_goes}
+use Rattle.dk_core.proofs.ChangeLemmas.{of_change, some_live, part_below}
 use Rattle.dk_core.proofs.HolderLemmas.{into_but, has_parts}
 use Rattle.dk_core.proofs.LegalLemmas.{Sound, step_keeps, first_sound}
-use Rattle.dk_core.proofs.PointLemmas.{Points, points}
+use Rattle.dk_core.proofs.PointLemmas.{commit_found}
 use Rattle.dk_core.proofs.SeatLemmas.{versions_has, tail_has, take_has, append_made}
 use Rattle.dk_core.proofs.StepLemmas.{Found, found, live_of, made_has}
 
@@ -393,20 +393,15 @@ change_seat : (core : Core) → Fits core → Versioned core → (number : ℕ) 
 change_seat core fits versioned number at part f =
     let seat = f.seat in
     let there = f.seat_there in
-    let touched = f.session.writes in
-    let past = f.session.last in
-    by_change core at part touched past seat
-    (λ transaction asked. slice_get core.now.sessions (number - 1) ≡ Some (session_of transaction asked touched past)
-    → NewSeat core core.now (number - 1) (does.seat_after_change core number part seat))
-    (λ active asked is here.
+    of_change core number at part f
+    (λ transaction asked. NewSeat core core.now (number - 1) (does.seat_after_change core number part seat))
+    (λ active asked here kind fresh goes.
     let n = committed_count core.opened core.now.commits active part.table in
     let meaning = meaning_in core.opened core.now.commits active asked in
-    let session = session_of (state.Open active) (Some asked) touched past in
-    let h = and_parts _ (is_fresh_part n seat.made meaning part) is in
-    let goes = part_goes core active asked seat.made part n h.1 in
-    let l = live_of (length core.now.commits) seat (state.Open active) (Some asked) touched past
+    let session = session_of (state.Open active) (Some asked) f.session.writes f.session.last in
+    let l = live_of (length core.now.commits) seat (state.Open active) (Some asked) f.session.writes f.session.last
     (fits.sit (number - 1) session seat here there).links goes in
-    let none = (and_parts (is_empty part.rows) _ (and_parts (is_one_kind part) _ h.0).0).0 in
+    let none = (and_parts (is_empty part.rows) _ kind).0 in
     change_cases (NewSeat core core.now (number - 1)) core number part seat
     (less_seat core versioned core.now (number - 1) seat seat there (omega arith) (omega arith) refl (λ e. e)
     (λ t r has. has) (λ p. p))
@@ -418,7 +413,7 @@ change_seat core fits versioned number at part f =
     subst (λ t. row < row_count (after core.opened core.now.commits live.start) t) (eqb-true part.table table q.0)
     (subst (λ s. row < row_count (after core.opened core.now.commits s) part.table)
     (sym l.3 ∙ ap (λ x. x.start) (some_live l.0 live (sym l.1 ∙ e)))
-    (part_below core active seat.made part meaning row h.1 q.1)))
+    (part_below core active seat.made part meaning row fresh q.1)))
     (λ p. versioned.placed.committed (number - 1) seat live table row (there, e) p)
     (or_cases (part.table == table && part_has part row) (net_has (unstamped seat) table row) has))
     (λ p k other off at_k q. off
@@ -426,7 +421,6 @@ change_seat core fits versioned number at part f =
     (no_more_rows part.table part.updates part.deletes part.rows seat.made none p))))
     (λ refusal. less_seat core versioned core.now (number - 1) seat (record seat { found = Some refusal }) there
     (omega arith) (omega arith) refl (λ e. e) (λ t r has. has) (λ p. p)))
-    f.session.transaction f.session.asked f.passes f.session_there
 
 -- a call that may commit is no ROLLBACK
 commit_no_rollback : (fresh : Bool) (found : Option Kind)
@@ -581,25 +575,29 @@ begin_versioned core fits versioned number f false is =
     (grown_length now.commits core.now.commits (grown_with core entry)))
 
 -- the seat behind a Point that is a commit
-commit_versioned : (core : Core) → Versioned core → (event : Event) (number : ℕ) (reply : Reply) (seat : Seat)
-    → entry_of core event ≡ Some (history.Reply number reply) → seat_at core.seats number ≡ Some seat
-    → slice_get core.seats (number - 1) ≡ Some seat
-    → Points core number reply seat
+commit_versioned : (core : Core) → Fits core → Versioned core → (event : Event) (number : ℕ) (reply : Reply)
+    (test : Session → Seat → Bool) (also : Bool) → is_commit reply ≡ true
+    → entry_of core event ≡ Some (history.Reply number reply)
+    → ((session : Session) (seat : Seat) → test session seat ≡ true → may_commit core reply session seat ≡ true)
+    → (may.at_session core number test && also) ≡ true
     → Versioned
     (core_with core (entries_after core event) (state_with core (entry_of core event))
     (with_change core number (does.seat_after_commit core)))
-commit_versioned core versioned event number reply seat entry is there p =
+commit_versioned core fits versioned event number reply test also commits entry tells allowed =
+    let found = commit_found core fits number reply test also commits tells allowed in
+    let seat = found.0.seat in
+    let p = found.1 in
     let now = state_with core (entry_of core event) in
     let grown : length now.commits ≡ length core.now.commits + 1 = ap (λ e. length (state_with core e).commits) entry
     ∙ p.grown in
-    new_versioned core versioned event number seat (does.seat_after_commit core) is
+    new_versioned core versioned event number seat (does.seat_after_commit core) found.0.seat_is
     (subst (λ s. NewSeat core now (number - 1) s)
     (sym (ap (λ found. elim found as (λ x. Seat) [
       | None ↦ seat
       | Some live ↦ record
           (does.seat_after_reply seat) { live = Some (record live { commit = Some (length core.now.commits + 1) }) }
     ]) p.has_live))
-    (pointed_seat core versioned now (number - 1) seat p.live there p.has_live grown
+    (pointed_seat core versioned now (number - 1) seat p.live found.0.seat_there p.has_live grown
     (begun_with core (entry_of core event))))
 
 -- each event that is allowed keeps the numbers and the places
@@ -632,26 +630,17 @@ event_versioned core fits versioned (event.Point number (done.Create name schema
     (λ seat. record seat { creates = Some (record { name = name; schema = schema }) }) f.seat_is f.seat_there refl
     (λ e. e) (λ t r has. has) (λ p. p)
 event_versioned core fits versioned (event.Point number done.Created moment) allowed =
-    let test = may_point core done.Created moment in
-    let reply = told.Created (next_receipt core.now moment) in
-    let f = found core number test (and_parts (may.at_session core number test) _ allowed).0 in
-    commit_versioned core versioned (event.Point number done.Created moment) number reply f.seat refl f.seat_is
-    f.seat_there
-    (points core fits number reply test refl (λ session seat passes. (and_parts (is_some seat.creates) _ passes).1) f)
+    commit_versioned core fits versioned (event.Point number done.Created moment) number
+    (told.Created (next_receipt core.now moment)) (may_point core done.Created moment) _ refl refl
+    (λ session seat passes. (and_parts (is_some seat.creates) _ passes).1) allowed
 event_versioned core fits versioned (event.Point number (done.Changed count) moment) allowed =
-    let test = may_point core (done.Changed count) moment in
-    let reply = told.Changed count (Some (next_receipt core.now moment)) in
-    let f = found core number test (and_parts (may.at_session core number test) _ allowed).0 in
-    commit_versioned core versioned (event.Point number (done.Changed count) moment) number reply f.seat refl
-    f.seat_is f.seat_there
-    (points core fits number reply test refl (λ session seat passes. (and_parts (is_none seat.creates) _ passes).1) f)
+    commit_versioned core fits versioned (event.Point number (done.Changed count) moment) number
+    (told.Changed count (Some (next_receipt core.now moment))) (may_point core (done.Changed count) moment) _ refl refl
+    (λ session seat passes. (and_parts (is_none seat.creates) _ passes).1) allowed
 event_versioned core fits versioned (event.Point number done.Commit moment) allowed =
-    let test = may_point core done.Commit moment in
-    let reply = told.Committed (next_receipt core.now moment) in
-    let f = found core number test (and_parts (may.at_session core number test) _ allowed).0 in
-    commit_versioned core versioned (event.Point number done.Commit moment) number reply f.seat refl f.seat_is
-    f.seat_there
-    (points core fits number reply test refl (λ session seat passes. (and_parts (is_none seat.creates) _ passes).1) f)
+    commit_versioned core fits versioned (event.Point number done.Commit moment) number
+    (told.Committed (next_receipt core.now moment)) (may_point core done.Commit moment) _ refl refl
+    (λ session seat passes. (and_parts (is_none seat.creates) _ passes).1) allowed
 event_versioned core fits versioned (event.Stamp number) allowed =
     let f = found core number may.may_stamp allowed in
     less_versioned core versioned (event.Stamp number) number f.seat

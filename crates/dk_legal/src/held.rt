@@ -2,13 +2,14 @@
 ghost use Rattle.std.specs.Prelude.{◌≡◌, ◌==◌, ◌++◌, IfOk};
 ghost use Rattle.std.specs.List.{list_any};
 ghost use Rattle.dk_si.specs.Machine.{asks_for, others};
-ghost use Rattle.dk_si.specs.HeldRows.{commit_has, some_commit_has, writes_row, is_rollback, has_pending_write};
+ghost use Rattle.dk_si.specs.HeldRows.{writes_row, is_rollback, has_pending_write};
 ghost use Rattle.dk_si.specs.HeldRows.{other_has_pending_write, is_blocked, commit_holds, is_last_above, open_holds};
 ghost use Rattle.dk_si.specs.HeldRows.{last_holds, session_holds, holds_against, holds};
 
 use crate::scene::{RowId, Seat};
 use dk_plain::nets::{has_id, net_has};
 use dk_plain::slices::{first, rest};
+use dk_plain::writers::some_commit_has;
 use dk_si::kind::Kind;
 use dk_si::machine::{Machine, Session, Transaction, WriteSet};
 use dk_states::call::{kind_in, write_set_in_flight};
@@ -23,21 +24,6 @@ struct Hold<'a> {
     start: u64,
     transaction: u64,
     at: RowId,
-}
-
-fn commit_has(at: RowId, commit: &Commit) -> bool
-    ensures { result ≡ commit_has at.table at.row commit.now }
-{
-    match commit {
-        Commit::Create { .. } => false,
-        Commit::Change { net } => net_has(net.as_slice(), at.table, at.row),
-    }
-}
-
-fn some_commit_has(commits: &[Commit], at: RowId) -> bool
-    ensures { result ≡ some_commit_has commits.now at.table at.row }
-{
-    commits.iter().any(|commit| commit_has(at, commit))
 }
 
 /// Whether the row is among those that a statement updates or deletes.
@@ -102,7 +88,7 @@ fn other_has_pending_write(machine: &Machine, number: u32, at: RowId) -> bool
 pub fn is_blocked(machine: &Machine, number: u32, start: u64, at: RowId) -> bool
     ensures { result ≡ is_blocked machine.now number start at.table at.row }
 {
-    some_commit_has(rest(machine.commits.as_slice(), start), at)
+    some_commit_has(rest(machine.commits.as_slice(), start), at.table, at.row)
         || other_has_pending_write(machine, number, at)
 }
 
@@ -112,8 +98,9 @@ pub fn commit_holds(machine: &Machine, number: u32, start: u64, n: u64, at: RowI
 {
     let commits = machine.commits.as_slice();
     let own = first(rest(commits, n.saturating_sub(1)), 1);
-    (start < n && some_commit_has(own, at))
-        && (!some_commit_has(rest(commits, n), at) && !other_has_pending_write(machine, number, at))
+    (start < n && some_commit_has(own, at.table, at.row))
+        && (!some_commit_has(rest(commits, n), at.table, at.row)
+            && !other_has_pending_write(machine, number, at))
 }
 
 fn is_last_above(commits: &[Commit], start: u64, at: RowId, commit: &Option<u64>) -> bool
@@ -121,7 +108,7 @@ fn is_last_above(commits: &[Commit], start: u64, at: RowId, commit: &Option<u64>
 {
     match commit {
         None => true,
-        Some(n) => start < *n && !some_commit_has(rest(commits, *n), at),
+        Some(n) => start < *n && !some_commit_has(rest(commits, *n), at.table, at.row),
     }
 }
 

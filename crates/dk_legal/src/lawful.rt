@@ -2,9 +2,10 @@
 ghost use Rattle.std.specs.Prelude.{◌≡◌, ◌&&◌};
 ghost use Rattle.std.specs.List.{list_all};
 ghost use Rattle.dk_values.specs.Names.{is_name};
-ghost use Rattle.dk_si.specs.LawfulCalls.{is_literal, is_lawful_expr, is_lawful_filter, is_lawful_item};
-ghost use Rattle.dk_si.specs.LawfulCalls.{are_lawful_items, is_lawful_limit, is_lawful_query, is_lawful_value};
-ghost use Rattle.dk_si.specs.LawfulCalls.{is_lawful, is_lawful_call};
+ghost use Rattle.dk_syntax.specs.LawfulStatements.{is_literal_value, is_lawful_expr, is_lawful_filter, is_lawful_item};
+ghost use Rattle.dk_syntax.specs.LawfulStatements.{are_lawful_items, is_lawful_limit, is_lawful_query, is_lawful_value};
+ghost use Rattle.dk_syntax.specs.LawfulStatements.{is_lawful};
+ghost use Rattle.dk_si.specs.LawfulCalls.{is_lawful_call};
 
 use dk_si::history::Asked;
 use dk_types::{
@@ -13,8 +14,8 @@ use dk_types::{
 };
 use dk_values::is_utf8;
 
-fn is_literal(value: &Value) -> bool
-    ensures { result ≡ is_literal value.now }
+fn is_literal_value(value: &Value) -> bool
+    ensures { result ≡ is_literal_value value.now }
 {
     match value {
         Value::Null | Value::Bool(_) | Value::Big(_) => true,
@@ -28,7 +29,7 @@ fn is_lawful_expr(expr: &Expr) -> bool
     ensures { result ≡ is_lawful_expr expr.now }
 {
     match &expr.node {
-        Node::Lit(value) => is_literal(value),
+        Node::Lit(value) => is_literal_value(value),
         Node::Col(name) => is_name(name.as_slice()),
         Node::Neg(of) => is_lawful_expr(of.get()),
         Node::Not(of) => is_lawful_expr(of.get()),
@@ -107,7 +108,7 @@ fn is_lawful_value(expr: &Expr) -> bool
 {
     match expr.literal() {
         None => false,
-        Some(value) => is_literal(value),
+        Some(value) => is_literal_value(value),
     }
 }
 

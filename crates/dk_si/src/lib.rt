@@ -5,8 +5,8 @@
 //! statement means (`Meaning`), the machine's state and what each entry makes of it (`Machine`), rows held against a
 //! transaction (`HeldRows`), what a call may be answered by what its session knows (`MayAnswer`), the step (`IsStep`),
 //! legal histories (`IsLegal`), stops and iterations carried from entry to entry (`Standing`), and histories of one thread
-//! (`OneThread`, `Answer`). Three look into a statement: `Meaning`, `LawfulCalls`, and `kind_of` of `Machine`; all others
-//! ask these.
+//! (`OneThread`, `Answer`). Three look into a statement: `Meaning`, the `LawfulStatements` of `dk_syntax`, and `kind_of` of
+//! `Machine`; all others ask these.
 //!
 //! What holds of each list of steps stands in `laws`: the commits that a transaction sees stay as they are, each front
 //! of a legal history is legal, and of two overlapping transactions that change one row never both commit. Further laws

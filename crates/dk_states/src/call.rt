@@ -61,7 +61,7 @@ pub fn statement_meaning(
 }
 
 /// What a call means in an open transaction.
-fn meaning_in(alloc: Global, inside: &Inside<'_>, asked: &Asked) -> Result<Meaning, OutOfMemory>
+pub fn meaning_in(alloc: Global, inside: &Inside<'_>, asked: &Asked) -> Result<Meaning, OutOfMemory>
     ensures { IfOk result (λ meant. meant ≡ meaning_in inside.now.log.opened.now
         inside.now.log.commits.now inside.now.active.now asked.now) }
 {
@@ -72,7 +72,7 @@ fn meaning_in(alloc: Global, inside: &Inside<'_>, asked: &Asked) -> Result<Meani
 }
 
 /// How many rows of a table stand before the transaction's own ones.
-fn committed_count(alloc: Global, inside: &Inside<'_>, table: u32) -> Result<u64, OutOfMemory>
+pub fn committed_count(alloc: Global, inside: &Inside<'_>, table: u32) -> Result<u64, OutOfMemory>
     ensures { IfOk result (λ count. count ≡ committed_count inside.now.log.opened.now
         inside.now.log.commits.now inside.now.active.now table) }
 {
@@ -80,7 +80,8 @@ fn committed_count(alloc: Global, inside: &Inside<'_>, table: u32) -> Result<u64
     Ok(row_count(tables.as_slice(), table))
 }
 
-fn changed_ids(alloc: Global, part: &TableNet) -> Result<Vec<u64>, OutOfMemory>
+/// The ids of a part's updates and deletes.
+pub fn changed_ids(alloc: Global, part: &TableNet) -> Result<Vec<u64>, OutOfMemory>
     ensures { IfOk result (λ ids. ids.items ≡ changed_ids part.now) }
 {
     let mut ids = ids_of(alloc, part.updates.as_slice())?;

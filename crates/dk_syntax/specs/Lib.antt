@@ -1,2 +1,3 @@
+pub mod LawfulStatements
 pub mod Literals
 pub mod formers

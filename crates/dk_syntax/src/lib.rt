@@ -1,7 +1,8 @@
 //! Statements as their texts have them: the syntax trees, with the place of what a refusal may name.
 //!
-//! A tree is plain data to a contract, with no pointer in it, and a `copy` equals what it copies. `dk_types` gives all
-//! of it out again. It stands on `dk_values`, and on the lists and boxes of `sqlite_items`.
+//! A tree is plain data to a contract, with no pointer in it, and a `copy` equals what it copies. Which trees a text can
+//! say is told by `specs/LawfulStatements.antt`. `dk_types` gives all of it out again. It stands on `dk_values`, and on the
+//! lists and boxes of `sqlite_items`.
 #![tactic(auto)]
 
 pub mod boxed;
