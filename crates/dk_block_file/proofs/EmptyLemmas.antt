@@ -9,12 +9,13 @@ use Rattle.dk_device.specs.declared.device.Disk.{Ghosts}
 use Rattle.dk_device.specs.declared.device.FileId.TheVariants.{Main}
 use Rattle.dk_device.specs.Changes.{images_of, IsSynced}
 use Rattle.dk_device.specs.Disk.{overlay}
+use Rattle.dk_device.proofs.ReplacementLemmas.{known}
 use Rattle.dk_block_file.specs.Blocks.{first_header, empty_main}
 use Rattle.dk_block_file.specs.Flips.{gate_place, body_at, gate_at}
 use Rattle.dk_block_file.specs.Current.{HasHeaders, HasCurrent}
 use Rattle.dk_block_file.proofs.CurrentLemmas.{said_open, said_closed, current_of_said}
 use Rattle.dk_block_file.proofs.GateLemmas.{length-body, length-main, length-empty, shape, second_closed}
-use Rattle.dk_block_file.proofs.RangeLemmas.{known, range_inside}
+use Rattle.dk_block_file.proofs.RangeLemmas.{range_inside}
 use Rattle.dk_block_file.specs.declared.layout.TheConstants.{HEADERS_BYTES}
 
 -- a header, a body, an open gate, and more

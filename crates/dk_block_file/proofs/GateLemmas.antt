@@ -7,9 +7,10 @@ use Rattle.dk_header.specs.declared.header.TheConstants.{HEADER_BYTES, BODY_BYTE
 use Rattle.dk_header.specs.declared.header.DbHeader.{DbHeader}
 use Rattle.dk_header.specs.Layout.{main_bytes, body_bytes}
 use Rattle.dk_device.specs.Disk.{overlay}
+use Rattle.dk_device.proofs.ReplacementLemmas.{known}
 use Rattle.dk_block_file.specs.Blocks.{first_header, empty_main}
 use Rattle.dk_block_file.specs.Flips.{header_place, gate_place, body_at, gate_at, IsClosed, IsOpen, HasBody}
-use Rattle.dk_block_file.proofs.RangeLemmas.{known, range_inside, byte_written}
+use Rattle.dk_block_file.proofs.RangeLemmas.{range_inside, byte_written}
 use Rattle.dk_block_file.specs.declared.layout.TheConstants.{HEADERS_BYTES}
 
 pub length-body : (header : DbHeader) → length (body_bytes header) ≡ BODY_BYTES

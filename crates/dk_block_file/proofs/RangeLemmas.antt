@@ -1,11 +1,12 @@
 -- A range written over bytes, and the bytes around it.
-use Rattle.std.specs.Prelude.{◌≡◌, ℕ, ◌+◌, ◌-◌, ◌≤◌, min, List, [], ◌∷◌, ◌++◌, length, take, drop, replicate, Option, None, Some, IfSome, refl}
+use Rattle.std.specs.Prelude.{◌≡◌, ℕ, ◌+◌, ◌-◌, ◌≤◌, min, List, [], ◌∷◌, ◌++◌, length, take, drop, replicate, Option, None, Some, IfSome}
 use Rattle.std.proofs.Common.{option_map, sym, ◌∙◌, ap, subst, arith, get_or, append_assoc, length-append, length-drop}
-use Rattle.std.proofs.lemmas.List.{length-replicate, take_all, take_at, drop_at, drop_all, append-nil, take-append-le, take-take, drop-drop, drop-take, length-take, get_or-drop, get_or_at}
+use Rattle.std.proofs.lemmas.List.{length-replicate, take_all, take_at, drop_at, take-append-le, take-take, drop-drop, drop-take, length-take, get_or-drop, get_or_at}
 use Rattle.std.proofs.Math.Seq.{take-append-add}
 use Rattle.dk_header.specs.declared.header.TheConstants.{SUM_BYTES}
 use Rattle.dk_device.specs.Disk.{overlay}
 use Rattle.dk_device.specs.ContentIsImage.{back, torn_overlaid}
+use Rattle.dk_device.proofs.ReplacementLemmas.{all_written}
 use Rattle.dk_block_file.specs.Lending.{with_payload}
 use Rattle.dk_block_file.specs.declared.layout.TheConstants.{BLOCK_BYTES, PAYLOAD_BYTES}
 
@@ -84,23 +85,7 @@ byte_written at b m within =
 pub nothing_written : (i at : ℕ) (m : List ℕ) → at ≤ i → get_or (overlay at [] m) i 0 ≡ get_or m i 0
 nothing_written i at m past = byte_behind i at [] m (omega arith)
 
--- a file without bytes is what was written
-pub all_written : (bytes m : List ℕ) → length m ≡ 0 → overlay 0 bytes m ≡ bytes
-all_written bytes m none =
-    ap (λ (l : List ℕ). bytes ++ l) (drop_all (0 + length bytes) m (omega arith)) ∙ append-nil bytes
-
--- a known file behind a write, and before it
-pub known : (f : List ℕ → List ℕ) (old new : Option (List ℕ)) (c : List ℕ) → new ≡ option_map f old → new ≡ Some c
-    → (m : List ℕ) × (old ≡ Some m) × (c ≡ f m)
-known f None new c is told = absurd cc
-known f (Some m) new c is told = (m, refl, cc)
-
-pub told_fresh : (bytes : List ℕ) (old mid new : Option (List ℕ)) → mid ≡ option_map (take 0) old
-    → new ≡ option_map (overlay 0 bytes) mid → IfSome new (λ (w : List ℕ). w ≡ bytes)
-told_fresh bytes None mid new cut written = rw (written, cut) tt
-told_fresh bytes (Some m) mid new cut written =
-    rw (written, cut) (all_written bytes (take 0 m) (omega (arith, length-take 0 m)))
-
+-- a file without bytes that was written
 pub told_whole : (bytes : List ℕ) (old new : Option (List ℕ)) → IfSome old (λ (m : List ℕ). length m ≡ 0)
     → new ≡ option_map (overlay 0 bytes) old → IfSome new (λ (w : List ℕ). w ≡ bytes)
 told_whole bytes None new none written = rw written tt

@@ -1,12 +1,11 @@
 -- Where the blocks of the main file lie and what they hold, and the files of an empty database.
-use Rattle.std.specs.Prelude.{◌≡◌, ◌≢◌, ◌⊎◌, ℕ, ◌<◌, ◌≤◌, ◌+◌, ◌-◌, ◌*◌, ◌/◌, ◌==◌, nat_lt, Result, Ok, Err, List, [], ◌∷◌, ◌++◌, length, take, drop, replicate, if◌then◌else◌}
+use Rattle.std.specs.Prelude.{◌≡◌, ◌≢◌, ℕ, ◌<◌, ◌≤◌, ◌+◌, ◌-◌, ◌*◌, ◌/◌, ◌==◌, nat_lt, Result, Ok, Err, List, [], ◌∷◌, ◌++◌, length, take, drop, replicate, if◌then◌else◌}
 use Rattle.std.specs.Int.{w64, from_le_bytes}
 use Rattle.dk_bytes.specs.Checksum.{checksum_of}
 use Rattle.dk_types.specs.declared.damage.Damage.{Damage}
 use Rattle.dk_types.specs.declared.damage.Damage.TheVariants.{Sum, Outside}
 use Rattle.dk_header.specs.declared.header.DbHeader.{DbHeader}
 use Rattle.dk_header.specs.declared.header.TheConstants.{HEADER_BYTES, SUM_BYTES, OPEN_GATE, NO_ROOT, VERSION}
-use Rattle.dk_header.specs.declared.log.TheConstants.{LOG_HEADER_BYTES}
 use Rattle.dk_header.specs.Layout.{with_checksum, main_bytes, body_bytes}
 use Rattle.dk_block_file.specs.declared.fault.BlockFault.{BlockFault}
 use Rattle.dk_block_file.specs.declared.fault.BlockFault.TheVariants.{DiskFault, Damaged, OutOfMemory}
@@ -59,10 +58,6 @@ pub record SameOthers (block extent : ℕ) (old new : List ℕ) : Type 0 where
   pub no_shorter : length old ≤ length new
   pub headers : HEADERS_BYTES ≤ length old → take HEADERS_BYTES new ≡ take HEADERS_BYTES old
   pub others : (k : ℕ) → k < blocks_in extent → k < blocks_in (length old) → k ≢ block → block_at k new ≡ block_at k old
-
--- a front of the log that was, or no more than a log's header
-abbrev pub FrontOrHeader : List ℕ → List ℕ → Type 0
-FrontOrHeader old new = (new ≡ take (length new) old) ⊎ (length new ≤ LOG_HEADER_BYTES)
 
 -- what a call that left this payload answered, where a block reads so
 abbrev pub ReadsAs : Result (List ℕ) Damage → List ℕ → Result (Unit {0}) BlockFault → Type 0

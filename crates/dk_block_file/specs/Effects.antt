@@ -5,13 +5,12 @@ use Rattle.dk_types.specs.declared.damage.Damage.TheVariants.{Sum}
 use Rattle.dk_fault.specs.Causes.{Rose}
 use Rattle.dk_header.specs.declared.header.TheConstants.{HEADER_BYTES, SUM_BYTES, OPEN_GATE, VERSION}
 use Rattle.dk_header.specs.declared.header.DbHeader.{DbHeader}
-use Rattle.dk_header.specs.declared.log.TheConstants.{LOG_HEADER_BYTES}
 use Rattle.dk_header.specs.Layout.{main_read, body_bytes}
 use Rattle.dk_header.specs.LogLayout.{log_header_bytes}
 use Rattle.dk_device.specs.declared.device.Disk.{Ghosts}
 use Rattle.dk_device.specs.declared.device.FileId.TheVariants.{Main, Wal}
 use Rattle.dk_device.specs.Calls.{Call, Did, Stopped, Makes, synced_write}
-use Rattle.dk_device.specs.Changes.{images_of, IsSynced, Earlier, Changes, ChangesAlone}
+use Rattle.dk_device.specs.Changes.{images_of, IsSynced, Earlier, Changes, ChangesAlone, HoldsOnly}
 use Rattle.dk_device.specs.Disk.{overlay, TornWrite, Allows}
 use Rattle.dk_block_file.specs.declared.fault.BlockFault.{BlockFault}
 use Rattle.dk_block_file.specs.declared.fault.BlockFault.TheVariants.{DiskFault, Damaged, OutOfMemory}
@@ -118,10 +117,8 @@ pub record MakesWithMemory {D : Type 0} (g : Ghosts D) (calls : List Call) (old 
   pub memory : result ≡ Err OutOfMemory → new ≡ old
 
 -- the log has no records, and a crash leaves nothing else of it
-pub record HasNewLog {D : Type 0} (g : Ghosts D) (disk : D) : Type 0 where
-  pub content : IfSome (g.content disk Wal) (λ wal. wal ≡ log_header_bytes 1)
-  pub extent : g.extent disk Wal ≡ LOG_HEADER_BYTES
-  pub synced : IsSynced g disk Wal
+abbrev pub HasNewLog : {D : Type 0} → Ghosts D → D → Type 0
+HasNewLog g disk = HoldsOnly g Wal (log_header_bytes 1) disk
 
 -- the log is new, and Main begins as that of an empty database
 pub record WritesFiles {D : Type 0} (g : Ghosts D) (old new : D) : Type 0 where

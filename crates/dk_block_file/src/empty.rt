@@ -2,16 +2,17 @@
 ghost use Rattle.std.specs.Prelude.{◌≡◌, ◌⊎◌, ◌≤◌, ◌++◌, ◌∷◌, [], max, replicate, Err, IfOk, IfErr, IfSome, OnOk, OnErr};
 ghost use Rattle.std.proofs.Common.{option_map};
 ghost use Rattle.dk_fault.specs.Causes.{HasCause, HasCauseIf};
-ghost use Rattle.dk_device.specs.Disk.{overlay};
+ghost use Rattle.dk_device.specs.Disk.{FrontOrShort};
 ghost use Rattle.dk_device.specs.declared.device.FileId.TheVariants.{Main, Wal};
-ghost use Rattle.dk_block_file.specs.Blocks.{empty_main, FrontOrHeader};
+ghost use Rattle.dk_header.specs.declared.log.TheConstants.{LOG_HEADER_BYTES};
+ghost use Rattle.dk_block_file.specs.Blocks.{empty_main};
 ghost use Rattle.dk_block_file.specs.Effects.{Creates, HasNewLog, WritesFiles, MakesWithMemory};
 ghost use Rattle.dk_block_file.specs.Calls.{log_creation, creation};
 ghost use Rattle.dk_device.specs.Calls.{Makes};
 ghost use Rattle.dk_device.specs.Changes.{Earlier, ChangesAlone};
 
 use crate::BlockFault;
-use dk_device::{Disk, Failed, FileId, cut_synced, write_synced};
+use dk_device::{Disk, Failed, FileId, replace_synced, write_synced};
 use dk_header::{
     DbHeader, HEADER_BYTES, NO_ROOT, OPEN_GATE, VERSION, body_of, log_header, main_header,
 };
@@ -44,14 +45,12 @@ fn empty_bytes(alloc: Global) -> Result<Vec<u8>, OutOfMemory>
 /// A log without records.
 fn new_log<D: Disk>(disk: &mut D) -> Result<(), Failed>
     ensures log { OnOk result (HasNewLog D.Disk disk.new) }
-    ensures alone { ChangesAlone D.Disk FrontOrHeader Wal disk.old disk.new }
+    ensures alone { ChangesAlone D.Disk
+        (FrontOrShort LOG_HEADER_BYTES) Wal disk.old disk.new }
     ensures calls { Makes D.Disk log_creation disk.old disk.new result }
     ensures cause { HasCause (D.faults disk.old) (D.faults disk.new) result }
 {
-    let header = log_header(1);
-    cut_synced(disk, FileId::Wal, 0)?;
-    write_synced(disk, FileId::Wal, 0, &header)?;
-    Ok(())
+    replace_synced(disk, FileId::Wal, &log_header(1))
 }
 
 /// The log first, and then the headers.

@@ -168,6 +168,26 @@ module _ {D : Type 0} (g : Ghosts D) where
     images = changes_one S file a b here time crash beside.images;
   }
 
+  -- its step told otherwise
+  pub alone_less : (S T : Step) (file : FileId) (a b : D)
+      → ((d c : List ℕ) → images_of g a file d → S d c → T d c) → ChangesAlone g S file a b → ChangesAlone g T file a b
+  alone_less S T file a b less alone = record {
+    content = alone.content;
+    extent = alone.extent;
+    images = changes_less S T file a b less alone.images;
+  }
+
+  -- one after the other: the first alone, and the second behind it
+  pub alone_then : (S T U : Step) (file : FileId) (a b c : D)
+      → ((x y : List ℕ) → images_of g a file x → S x y → U x y)
+      → ((x y z : List ℕ) → images_of g a file x → images_of g b file y → S x y → T y z → U x z)
+      → ChangesAlone g S file a b → ChangesAlone g T file b c → ChangesAlone g U file a c
+  alone_then S T U file a b c alone both first second = record {
+    content = second.content ∙ first.content;
+    extent = second.extent ∙ first.extent;
+    images = changes_then S T U file a b c alone both first.images second.images;
+  }
+
   -- and so does the sync behind it
   pub alone_synced : (S : Step) (file : FileId) (a b c : D) → ChangesAlone g S file a b
       → SameFiles (g.content b) (g.content c) → SameFiles (g.extent b) (g.extent c)

@@ -1,5 +1,5 @@
 -- The calls of a disk that a call above it makes, one after the other.
-use Rattle.std.specs.Prelude.{◌≡◌, ◌⊎◌, ℕ, true, false, List, [], ◌∷◌, Option, Result, OnOk, OnErr}
+use Rattle.std.specs.Prelude.{◌≡◌, ◌⊎◌, ℕ, true, false, List, [], ◌∷◌, ◌++◌, Option, Result, OnOk, OnErr}
 use Rattle.dk_device.specs.declared.device.Disk.{Ghosts}
 use Rattle.dk_device.specs.declared.device.FileId.{FileId}
 use Rattle.dk_device.specs.declared.calls.DiskCall.{DiskCall}
@@ -35,3 +35,7 @@ synced_write file at bytes = (file, Write at bytes) ∷ (file, Sync) ∷ []
 
 abbrev pub synced_cut : FileId → ℕ → List Call
 synced_cut file len = (file, Cut len) ∷ (file, Sync) ∷ []
+
+-- a cut to nothing and a write, each with its sync
+abbrev pub synced_replacement : FileId → List ℕ → List Call
+synced_replacement file bytes = synced_cut file 0 ++ synced_write file 0 bytes

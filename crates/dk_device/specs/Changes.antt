@@ -1,5 +1,5 @@
 -- What a crash may leave of both files, at each moment, while one of them is changed.
-use Rattle.std.specs.Prelude.{◌≡◌, ◌↔◌, ℕ, ◌<◌, ◌≤◌, List, Some, length, get_or}
+use Rattle.std.specs.Prelude.{◌≡◌, ◌↔◌, ℕ, ◌<◌, ◌≤◌, List, Some, IfSome, length, get_or}
 use Rattle.dk_device.specs.declared.device.Disk.{Ghosts}
 use Rattle.dk_device.specs.declared.device.FileId.{FileId}
 use Rattle.dk_device.specs.Disk.{other, SameFiles, SameImages}
@@ -40,6 +40,12 @@ pub record ChangesAlone {D : Type 0} (g : Ghosts D) (step : List ℕ → List �
   pub content : g.content new (other file) ≡ g.content old (other file)
   pub extent : g.extent new (other file) ≡ g.extent old (other file)
   pub images : Changes g step file old new
+
+-- a file has these bytes and no others, and a crash leaves nothing else of it
+pub record HoldsOnly {D : Type 0} (g : Ghosts D) (file : FileId) (bytes : List ℕ) (disk : D) : Type 0 where
+  pub content : IfSome (g.content disk file) (λ c. c ≡ bytes)
+  pub extent : g.extent disk file ≡ length bytes
+  pub synced : IsSynced g disk file
 
 -- a length that a call may have changed in part: from the lower to the higher of these
 pub record IsWithin (low high length : ℕ) : Type 0 where

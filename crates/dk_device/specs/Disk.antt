@@ -1,5 +1,5 @@
 -- What the calls of a disk do to its two files, and what a crash may leave of each.
-use Rattle.std.specs.Prelude.{◌≡◌, ◌↔◌, ℕ, ◌+◌, ◌≤◌, min, max, Bool, List, [], ◌∷◌, ◌++◌, length, take, drop, Option, Result, OnOk}
+use Rattle.std.specs.Prelude.{◌≡◌, ◌⊎◌, ◌↔◌, ℕ, ◌+◌, ◌≤◌, min, max, Bool, List, [], ◌∷◌, ◌++◌, length, take, drop, Option, Result, OnOk}
 use Rattle.std.proofs.Common.{option_map}
 use Rattle.dk_device.specs.declared.device.TheConstants.{LAST_MOMENT}
 use Rattle.dk_device.specs.declared.device.FileId.{FileId}
@@ -34,6 +34,11 @@ pub record TornWrite (at n extent : ℕ) (old new : List ℕ) : Type 0 where
 pub record TornCut (n : ℕ) (old new : List ℕ) : Type 0 where
   pub front : new ≡ take (length new) old
   pub no_shorter : min n (length old) ≤ length new
+
+-- What a crash may leave while a file is cut to nothing and written with n bytes: a front of what it might have left
+-- before, or no more bytes than these.
+abbrev pub FrontOrShort : ℕ → List ℕ → List ℕ → Type 0
+FrontOrShort n old new = (new ≡ take (length new) old) ⊎ (length new ≤ n)
 
 -- each image after a call is one from before it, after a step
 abbrev pub Follows : (List ℕ → List ℕ → Type 0) → (List ℕ → Type 0) → (List ℕ → Type 0) → Type 0

@@ -3,8 +3,8 @@
 //! [`Disk`] says of each call what it does to the content and to each image that a crash now may leave, and that the
 //! images of earlier moments stay what they were. Between two syncs of a file each written range and the part past an
 //! old end may hold any bytes, and of a file that was cut any front is left that is no shorter than the new length;
-//! after a sync a crash leaves what a read gives. [`write_synced`] and [`cut_synced`] are a change and its sync, with
-//! what a crash at each moment inside may leave.
+//! after a sync a crash leaves what a read gives. [`write_synced`], [`cut_synced`] and [`replace_synced`] are changes,
+//! each with its sync, with what a crash at each moment inside may leave.
 //!
 //! [`MemoryDisk`] keeps its calls and meets this in both directions, and gives images for tests. [`HostDisk`] stands
 //! over two real files, of which it knows lengths and faults alone. Stands on std, the count of faults and `thiserror`.
@@ -30,4 +30,4 @@ pub use dk_fault::Failed;
 pub use host::HostDisk;
 pub use image::Choice;
 pub use memory::MemoryDisk;
-pub use synced::{cut_synced, write_synced};
+pub use synced::{cut_synced, replace_synced, write_synced};

@@ -1,10 +1,10 @@
-//! A change of one of the two files, and its sync.
+//! A change of one of the two files, and its sync; and both of a file that is written anew.
 ghost use Rattle.std.specs.Prelude.{◌≡◌, ◌≤◌, ◌+◌, length, take, max, OnOk, OnErr};
 ghost use Rattle.std.proofs.Common.{option_map};
-ghost use Rattle.dk_device.specs.Calls.{Makes, synced_write, synced_cut};
+ghost use Rattle.dk_device.specs.Calls.{Makes, synced_write, synced_cut, synced_replacement};
 ghost use Rattle.dk_fault.specs.Causes.{HasCause};
-ghost use Rattle.dk_device.specs.Changes.{IsSynced, IsWithin, ChangesAlone};
-ghost use Rattle.dk_device.specs.Disk.{overlay, TornWrite, TornCut};
+ghost use Rattle.dk_device.specs.Changes.{IsSynced, IsWithin, ChangesAlone, HoldsOnly};
+ghost use Rattle.dk_device.specs.Disk.{overlay, TornWrite, TornCut, FrontOrShort};
 
 use crate::{Disk, Failed, FileId};
 
@@ -47,5 +47,19 @@ pub fn cut_synced<D: Disk>(disk: &mut D, file: FileId, len: u64) -> Result<(), F
 {
     disk.cut(file, len)?;
     disk.sync(file)?;
+    Ok(())
+}
+
+/// Cuts a file to nothing and writes it anew, each with its sync.
+pub fn replace_synced<D: Disk>(disk: &mut D, file: FileId, bytes: &[u8]) -> Result<(), Failed>
+    ensures replaced { OnOk result (HoldsOnly D.Disk file bytes.now disk.new) }
+    ensures no_longer { D.extent disk.new file ≤ max (D.extent disk.old file) (length bytes.now) }
+    ensures alone { ChangesAlone D.Disk
+        (FrontOrShort (length bytes.now)) file disk.old disk.new }
+    ensures calls { Makes D.Disk (synced_replacement file bytes.now) disk.old disk.new result }
+    ensures cause { HasCause (D.faults disk.old) (D.faults disk.new) result }
+{
+    cut_synced(disk, file, 0)?;
+    write_synced(disk, file, 0, bytes)?;
     Ok(())
 }

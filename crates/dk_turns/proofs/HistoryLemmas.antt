@@ -19,7 +19,9 @@ use Rattle.dk_turns.proofs.PlaceLemmas.{at_places, each_place_once}
 module _ (P N : Type 0) (holds : Fact P N) (lasts : LastingFact P N) where
   pub history : (s : TableState P N) (id : ℕ) (v : MidStep P N) → IsLast v → table.Seen (Rule holds lasts) id v s
       → (passes : List (PassView P N)) → IsWhole passes → JoinsAll passes v → (parts : List P) (slots : List (Option P))
-      → map Some parts ≡ slots → length s.homes ≡ length slots → ((k : ℕ) (o : Option P) → get_elem? s.homes k ≡ some (some o) → get_elem? slots k ≡ some o) → History holds passes parts
+      → map Some parts ≡ slots → length s.homes ≡ length slots
+      → ((k : ℕ) (o : Option P) → get_elem? s.homes k ≡ some (some o) → get_elem? slots k ≡ some o)
+      → History holds passes parts
   history s id v last seen passes whole joined parts slots are long values = record {
     log = r.log;
     kept = subst (holds r.log) states (r.kept r.states (wider_self r.states));
@@ -36,13 +38,18 @@ module _ (P N : Type 0) (holds : Fact P N) (lasts : LastingFact P N) where
       old = r.each_pass id v seen.1 last.live
 
       states : r.states ≡ map free_turn parts
-      states = states_are_parts P N holds lasts s id v last seen parts (ap length are ∙ sym long ∙ r.homes_are) (λ k o e. ap (λ l. get_elem? l k) are ∙ values k o e)
+      states = states_are_parts P N holds lasts s id v last seen parts (ap length are ∙ sym long ∙ r.homes_are)
+          (λ k o e. ap (λ l. get_elem? l k) are ∙ values k o e)
 
       mine : (p : PassView P N) → Among passes p → p.knowledge.events ≡ events_of p.knowledge.number r.log
       mine p h = ⊎_elim
-          (λ (x : (p.knowledge.number ≡ v.knowledge.number) × (p.knowledge.events ≡ v.knowledge.events)). x.1 ∙ old.made ∙ ap (λ (n : ℕ). events_of n r.log) (sym x.0))
-          (λ (x : (e : EndedPass N) × Among v.knowledge.ended e × (e.number ≡ p.knowledge.number) × (e.events ≡ p.knowledge.events)). sym x.3 ∙ (old.joined x.0 x.1).3 ∙ ap (λ (n : ℕ). events_of n r.log) x.2)
+          (λ (x : (p.knowledge.number ≡ v.knowledge.number) × (p.knowledge.events ≡ v.knowledge.events)). x.1
+          ∙ old.made ∙ ap (λ (n : ℕ). events_of n r.log) (sym x.0))
+          (λ (x : (e : EndedPass N) × Among v.knowledge.ended e × (e.number ≡ p.knowledge.number)
+          × (e.events ≡ p.knowledge.events)). sym x.3 ∙ (old.joined x.0 x.1).3
+          ∙ ap (λ (n : ℕ). events_of n r.log) x.2)
           (joined.1 p h)
 
       no_others : (n : ℕ) → numbers_given passes ≤ n → events_of n r.log ≡ []
-      no_others n big = r.unborn n (let total = (old.giving last.gives).0 in let all = joined.0 in omega (arith, total, all, big))
+      no_others n big = r.unborn n (let total = (old.giving last.gives).0 in let all = joined.0 in
+          omega (arith, total, all, big))

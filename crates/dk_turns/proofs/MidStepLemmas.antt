@@ -24,11 +24,13 @@ module _ {P N : Type 0} where
   pub out_first : (m : SeatState P N) (t : ℕ) (o : Option P) (v : Knowledge P N) → Out m t o v → m.1 ≡ (t, o) ∷ rest m.1
   out_first m t o v h = headed (t, o) m.1 [] h.out
 
-  pub out_value : (m : SeatState P N) (t : ℕ) (o r : Option P) (v : Knowledge P N) → Out m t o v → m.1 ≡ (t, r) ∷ rest m.1 → r ≡ o
+  pub out_value : (m : SeatState P N) (t : ℕ) (o r : Option P) (v : Knowledge P N) → Out m t o v
+      → m.1 ≡ (t, r) ∷ rest m.1 → r ≡ o
   out_value m t o r v h e = first_is m.1 t t o r [] (rest m.1) h.out e
 
   -- a slot was taken out
-  pub taken_out : (m m' : SeatState P N) (t : ℕ) (o : Option P) (v : Knowledge P N) → IsIdle m → m' ≡ (with_hand (suc t) v m.0, (t, o) ∷ m.1) → Out m' t o v
+  pub taken_out : (m m' : SeatState P N) (t : ℕ) (o : Option P) (v : Knowledge P N) → IsIdle m
+      → m' ≡ (with_hand (suc t) v m.0, (t, o) ∷ m.1) → Out m' t o v
   taken_out m m' t o v idle e = record {
     live = ap (λ (x : SeatState P N). x.0.spent) e ∙ idle.1;
     hand = ap (λ (x : SeatState P N). x.0.hand) e;
@@ -37,7 +39,8 @@ module _ {P N : Type 0} where
   }
 
   -- another value went into it
-  pub swapped : (m m' : SeatState P N) (t : ℕ) (o o' : Option P) (v : Knowledge P N) → Out m t o v → m' ≡ (m.0, (t, o') ∷ rest m.1) → Out m' t o' v
+  pub swapped : (m m' : SeatState P N) (t : ℕ) (o o' : Option P) (v : Knowledge P N) → Out m t o v
+      → m' ≡ (m.0, (t, o') ∷ rest m.1) → Out m' t o' v
   swapped m m' t o o' v h e = record {
     live = ap (λ (x : SeatState P N). x.0.spent) e ∙ h.live;
     hand = ap (λ (x : SeatState P N). x.0.hand) e ∙ h.hand;
@@ -46,16 +49,44 @@ module _ {P N : Type 0} where
   }
 
   -- it went home
-  pub home_again : (m m' : SeatState P N) (t : ℕ) (o : Option P) (v w : Knowledge P N) → Out m t o v → m' ≡ (with_hand 0 w m.0, rest m.1) → IsIdle m' × (m'.0.knowledge ≡ w)
+  pub home_again : (m m' : SeatState P N) (t : ℕ) (o : Option P) (v w : Knowledge P N) → Out m t o v
+      → m' ≡ (with_hand 0 w m.0, rest m.1) → IsIdle m' × (m'.0.knowledge ≡ w)
   home_again m m' t o v w h e = (
-    (ap (λ (x : SeatState P N). x.1) e ∙ ap rest h.out, ap (λ (x : SeatState P N). x.0.spent) e ∙ h.live, ap (λ (x : SeatState P N). x.0.hand) e),
+    (
+      ap (λ (x : SeatState P N). x.1) e ∙ ap rest h.out,
+      ap (λ (x : SeatState P N). x.0.spent) e
+          ∙ h.live,
+      ap (λ (x : SeatState P N). x.0.hand) e,
+    ),
     ap (λ (x : SeatState P N). x.0.knowledge) e,
   )
 
+  -- a slot was taken out with a value, and another went into it
+  pub exchanged : (m m' m'' : SeatState P N) (t : ℕ) (o o' : Option P) (v : Knowledge P N) → IsIdle m
+      → m' ≡ (with_hand (suc t) v m.0, (t, o) ∷ m.1) → m'' ≡ (m'.0, (t, o') ∷ rest m'.1) → Out m'' t o' v
+  exchanged m m' m'' t o o' v idle out e = swapped m' m'' t o o' v (taken_out m m' t o v idle out) e
+
+  -- and it went home
+  pub sent_home : (m m' m'' w : SeatState P N) (t : ℕ) (o o' : Option P) (v : Knowledge P N)
+      (after : Knowledge P N → Knowledge P N) → IsIdle m
+      → m' ≡ (with_hand (suc t) v m.0, (t, o) ∷ m.1) → m'' ≡ (m'.0, (t, o') ∷ rest m'.1)
+      → (m''.1 ≡ (t, o') ∷ rest m''.1 → w ≡ (with_hand 0 (after m''.0.knowledge) m''.0, rest m''.1))
+      → IsIdle w × (w.0.knowledge ≡ after v)
+  sent_home m m' m'' w t o o' v after idle out e home =
+      let now = exchanged m m' m'' t o o' v idle out e in
+      let back = home_again m'' w t o' _ _ now (home (out_first _ _ _ _ now)) in
+      (back.0, back.1 ∙ ap after now.knowledge)
+
   -- nothing was taken
-  pub missed : (m m' : SeatState P N) (w : Knowledge P N) → IsIdle m → m' ≡ (with_hand m.0.hand w m.0, m.1) → IsIdle m' × (m'.0.knowledge ≡ w)
+  pub missed : (m m' : SeatState P N) (w : Knowledge P N) → IsIdle m → m' ≡ (with_hand m.0.hand w m.0, m.1)
+      → IsIdle m' × (m'.0.knowledge ≡ w)
   missed m m' w idle e = (
-    (ap (λ (x : SeatState P N). x.1) e ∙ idle.0, ap (λ (x : SeatState P N). x.0.spent) e ∙ idle.1, ap (λ (x : SeatState P N). x.0.hand) e ∙ idle.2),
+    (
+      ap (λ (x : SeatState P N). x.1) e ∙ idle.0,
+      ap (λ (x : SeatState P N). x.0.spent) e
+          ∙ idle.1,
+      ap (λ (x : SeatState P N). x.0.hand) e ∙ idle.2,
+    ),
     ap (λ (x : SeatState P N). x.0.knowledge) e,
   )
 
@@ -68,15 +99,19 @@ module _ {P N : Type 0} where
   pub taking_value : (t : ℕ) (a b : P) (v : Knowledge P N) → a ≡ b → after_take t a v ≡ after_take t b v
   taking_value t a b v e = ap (λ (x : P). after_take t x v) e
 
-  pub lasting_value : (lasts : LastingFact P N) (t : ℕ) (a b : P) (v : Knowledge P N) → a ≡ b → NotedFactsHold lasts v t a → NotedFactsHold lasts v t b
+  pub lasting_value : (lasts : LastingFact P N) (t : ℕ) (a b : P) (v : Knowledge P N) → a ≡ b
+      → NotedFactsHold lasts v t a → NotedFactsHold lasts v t b
   lasting_value lasts t a b v e l = subst (λ (x : P). NotedFactsHold lasts v t x) e l
 
   -- an event was made, or the clock was read
-  pub kept_still : (m m' : SeatState P N) (w : Knowledge P N) → IsIdle m → m' ≡ (with_hand m.0.hand w m.0, m.1) → IsIdle m' × (m'.0.knowledge ≡ w)
+  pub kept_still : (m m' : SeatState P N) (w : Knowledge P N) → IsIdle m → m' ≡ (with_hand m.0.hand w m.0, m.1)
+      → IsIdle m' × (m'.0.knowledge ≡ w)
   kept_still m m' w idle e = missed m m' w idle e
 
-  pub puts_in : (holds : Fact P N) (lasts : LastingFact P N) (v w : Knowledge P N) (t : ℕ) (p q : P) → v ≡ w → IsLawfulPutBack holds lasts w t p q → IsLawfulPutBack holds lasts v t p q
+  pub puts_in : (holds : Fact P N) (lasts : LastingFact P N) (v w : Knowledge P N) (t : ℕ) (p q : P) → v ≡ w
+      → IsLawfulPutBack holds lasts w t p q → IsLawfulPutBack holds lasts v t p q
   puts_in holds lasts v w t p q e h = subst (λ (x : Knowledge P N). IsLawfulPutBack holds lasts x t p q) (sym e) h
 
-  pub making_turn : (t u : ℕ) (p : P) (x : N) (k : ℕ) (v : Knowledge P N) → t ≡ u → after_event t p x k v ≡ after_event u p x k v
+  pub making_turn : (t u : ℕ) (p : P) (x : N) (k : ℕ) (v : Knowledge P N) → t ≡ u
+      → after_event t p x k v ≡ after_event u p x k v
   making_turn t u p x k v e = ap (λ (z : ℕ). after_event z p x k v) e

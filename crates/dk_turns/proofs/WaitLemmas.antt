@@ -6,7 +6,7 @@ use Rattle.dk_turns.specs.KnowledgeAfter.{AfterWait, NotedFactsHold, after_refus
 
 module _ {P N : Type 0} where
   abbrev with_refused : Knowledge P N → List ℕ → Knowledge P N
-  with_refused v l = record { number = v.number; given = v.given; held = v.held; refused = l; events = v.events; seen = v.seen; noted = v.noted; ended = v.ended }
+  with_refused v l = record v { refused = l }
 
   -- words said "taken" at some steps
   abbrev pub Refused : Knowledge P N → Knowledge P N → Type 0
@@ -16,7 +16,11 @@ module _ {P N : Type 0} where
   not_refused v = ([], ap (with_refused v) (sym (append-nil v.refused)))
 
   pub refused_more : (v w x : Knowledge P N) (times : List ℕ) → Refused v w → x ≡ after_refusals times w → Refused v x
-  refused_more v w x times h e = (h.0 ++ times, e ∙ ap (after_refusals times) h.1 ∙ ap (with_refused v) (append_assoc v.refused h.0 times))
+  refused_more v w x times h e = (
+    h.0 ++ times,
+    e ∙ ap (after_refusals times) h.1
+        ∙ ap (with_refused v) (append_assoc v.refused h.0 times),
+  )
 
   pub waited_since : (v w x : Knowledge P N) (t : ℕ) (p : P) → Refused v w → AfterWait t p w x → AfterWait t p v x
   waited_since v w x t p h e =
@@ -26,5 +30,6 @@ module _ {P N : Type 0} where
   pub taken_after : (v w x : Knowledge P N) (t : ℕ) (p : P) → Refused v w → x ≡ after_take t p w → AfterWait t p v x
   taken_after v w x t p h e = (h.0, e ∙ ap (after_take t p) h.1)
 
-  pub lasting_since : (lasts : LastingFact P N) (v w : Knowledge P N) (t : ℕ) (p : P) → Refused v w → NotedFactsHold lasts w t p → NotedFactsHold lasts v t p
+  pub lasting_since : (lasts : LastingFact P N) (v w : Knowledge P N) (t : ℕ) (p : P) → Refused v w
+      → NotedFactsHold lasts w t p → NotedFactsHold lasts v t p
   lasting_since lasts v w t p h l = subst (λ (x : Knowledge P N). NotedFactsHold lasts x t p) h.1 l

@@ -22,7 +22,8 @@ module _ {X : Type 0} where
   filled_at (x ∷ xs) k (suc i) = filled_at xs k i
 
   -- a value goes into the first empty place
-  pub filled-put : (xs : List X) (k : ℕ) (x : X) → set (filled xs (suc k)) (length xs) (Some x) ≡ filled (xs ++ x ∷ []) k
+  pub filled-put : (xs : List X) (k : ℕ) (x : X)
+      → set (filled xs (suc k)) (length xs) (Some x) ≡ filled (xs ++ x ∷ []) k
   filled-put [] k x = refl
   filled-put (y ∷ xs) k x = ap (λ l. Some y ∷ l) (filled-put xs k x)
 

@@ -10,4 +10,5 @@ pub record Held (X : Type 0) : Type 0 where
 
 abbrev pub held_code : {X : Type 0} → Coded X → Coded (Held X)
 held_code {X} c = code_by (Ptr
-    × List X) (coded× coded_ptr (coded_list c)) (λ h. (h.place, h.items)) (λ p. record { place = p.0; items = p.1 }) (λ _. refl)
+    × List X) (coded× coded_ptr (coded_list c)) (λ h. (h.place, h.items)) (λ p. record { place = p.0; items = p.1 })
+    (λ _. refl)

@@ -19,6 +19,7 @@ use Rattle.dk_pages.specs.declared.tree.TableEntry.{TableEntry}
 use Rattle.dk_wal.specs.declared.limits.TheConstants.{FRAME_BYTES}
 use Rattle.dk_wal.specs.declared.log_scan.Scan.{Scan}
 use Rattle.dk_wal.specs.declared.log_scan.LogReader.{LogReader}
+use Rattle.dk_device.proofs.ReplacementLemmas.{known}
 use Rattle.dk_wal.specs.Payload.{payload_read}
 use Rattle.dk_wal.specs.Records.{payload_at}
 use Rattle.dk_wal.specs.LogReading.{record_len, record_at, with_record, with_commit, read_on, reader_of, log_read}
@@ -28,7 +29,7 @@ use Rattle.dk_wal.specs.Crashes.{SaysOneMoreAtMost, SaysOneMore, AppendCrash}
 use Rattle.dk_wal.proofs.FrontLemmas.{first_four, len_front, within_of, record_before, some_of}
 use Rattle.dk_wal.proofs.ReadingLemmas.{by_records}
 use Rattle.dk_wal.proofs.LogLemmas.{true_not_false, reader_same, reader_end, none_more, one_more, one_more_fills, record_fills}
-use Rattle.dk_wal.proofs.CutLemmas.{known, known_length}
+use Rattle.dk_wal.proofs.CutLemmas.{known_length}
 use Rattle.dk_wal.proofs.ChanceLemmas.{AreThis, this_alone, handed_is}
 
 some_is : (a b : List ℕ) → Some a ≡ Some b → a ≡ b

@@ -1,15 +1,15 @@
 -- A log that is cut, and one that is made anew: what a crash leaves of it.
-use Rattle.std.proofs.Common.{◌≡◌, ℕ, ◌+◌, ◌<◌, ◌≤◌, ◌^◌, false, List, [], ◌++◌, length, take, Option, None, Some, Ok, option_map, refl, sym, ap, subst, ◌∙◌, arith, inl, inr}
+use Rattle.std.proofs.Common.{◌≡◌, ℕ, ◌<◌, ◌≤◌, ◌^◌, false, List, [], ◌++◌, length, Option, Some, Ok, refl, sym, ap, subst, ◌∙◌, arith, inl, inr}
 use Rattle.std.specs.Prelude.{IfSome}
 use Rattle.std.specs.Int.{w64, to_le_bytes, from_le_bytes}
 use Rattle.std.proofs.lemmas.Bool.{cases_lt, le-ltb, eq-eqb}
-use Rattle.std.proofs.lemmas.List.{take_all, length-take, drop_all, append-nil}
+use Rattle.std.proofs.lemmas.List.{take_all, append-nil}
 use Rattle.dk_bytes.specs.Checksum.{checksum_of}
 use Rattle.dk_device.specs.declared.device.Disk.{Ghosts}
 use Rattle.dk_device.specs.declared.device.FileId.TheVariants.{Wal}
 use Rattle.dk_device.specs.Changes.{images_of, IsSynced, ChangesAlone}
-use Rattle.dk_device.specs.Disk.{TornWrite, TornCut, Follows, overlay}
-use Rattle.dk_device.proofs.ChangeLemmas.{changes_less, changes_then, changes_now}
+use Rattle.dk_device.specs.Disk.{TornCut, Follows, FrontOrShort}
+use Rattle.dk_device.proofs.ChangeLemmas.{alone_less, changes_now}
 use Rattle.dk_header.specs.declared.log.TheConstants.{LOG_MAGIC, LOG_HEADER_BYTES}
 use Rattle.dk_header.specs.LogLayout.{log_header_bytes}
 use Rattle.dk_header.proofs.HeaderLemmas.{checksum_below, number_first}
@@ -18,12 +18,6 @@ use Rattle.dk_wal.specs.LogReading.{header_read, nothing, log_read}
 use Rattle.dk_wal.specs.Logs.{IsFilled, HoldsNothing}
 use Rattle.dk_wal.specs.Crashes.{StaysEmpty, SaysSame, FillsSame}
 use Rattle.dk_wal.proofs.LogLemmas.{header_front, read_short, front_reads, front_nothing, good_end, good_fresh, header_by}
-
--- a known file behind a change, and before it
-pub known : (f : List ℕ → List ℕ) (old new : Option (List ℕ)) (c : List ℕ) → new ≡ option_map f old → new ≡ Some c
-    → (m : List ℕ) × (old ≡ Some m) × (c ≡ f m)
-known f None new c is told = absurd cc
-known f (Some m) new c is told = (m, refl, cc)
 
 -- the length of a file that is known
 pub known_length : (o : Option (List ℕ)) (c : List ℕ) (n : ℕ) → o ≡ Some c
@@ -58,18 +52,10 @@ cut_fills len old new torn whole tables iteration scan reads header good end =
       end = omega (arith, end, whole);
     }
 
-pub cut_empties : (len : ℕ) (old new : List ℕ) → TornCut len old new → StaysEmpty old new
-cut_empties len old new torn tables iteration empty =
-    subst (λ (l : List ℕ). HoldsNothing tables iteration l) (sym torn.front)
-    (front_nothing tables iteration (length new) old empty)
-
 module _ {D : Type 0} (g : Ghosts D) (a b : D) where
   pub cut_crash : (len : ℕ) → ChangesAlone g (TornCut len) Wal a b → ChangesAlone g (SaysSame len) Wal a b
-  cut_crash len cut = record {
-    content = cut.content;
-    extent = cut.extent;
-    images = changes_less g (TornCut len) (SaysSame len) Wal a b (λ d c left torn. cut_says len d c torn) cut.images;
-  }
+  cut_crash len cut =
+      alone_less g (TornCut len) (SaysSame len) Wal a b (λ d c left torn. cut_says len d c torn) cut
 
   pub cut_done : (len : ℕ) → ChangesAlone g (TornCut len) Wal a b → IsSynced g b Wal
       → IfSome (g.content b Wal) (λ (bytes : List ℕ). length bytes ≡ g.extent b Wal) → g.extent b Wal ≡ len
@@ -81,31 +67,16 @@ module _ {D : Type 0} (g : Ghosts D) (a b : D) where
 
   -- ---- a new log
 
-  pub empty_crash : ChangesAlone g (TornCut 0) Wal a b → ChangesAlone g StaysEmpty Wal a b
-  empty_crash cut = record {
-    content = cut.content;
-    extent = cut.extent;
-    images = changes_less g (TornCut 0) StaysEmpty Wal a b (λ d c left torn. cut_empties 0 d c torn) cut.images;
-  }
-
-  pub reset_crash : (c : D) (n : ℕ) → n ≡ LOG_HEADER_BYTES
-      → g.content b Wal ≡ option_map (take 0) (g.content a Wal) → IsSynced g b Wal
-      → ChangesAlone g (TornCut 0) Wal a b → ChangesAlone g (TornWrite 0 n (g.extent b Wal)) Wal b c
-      → ChangesAlone g StaysEmpty Wal a c
-  reset_crash c n size emptied synced first second = record {
-    content = second.content ∙ first.content;
-    extent = second.extent ∙ first.extent;
-    images =
-        changes_then g (TornCut 0) (TornWrite 0 n (g.extent b Wal)) StaysEmpty Wal a b c
-        (λ x y left cut. cut_empties 0 x y cut) both first.images second.images;
-  }
+  pub reset_crash : (n : ℕ) → n ≡ LOG_HEADER_BYTES → ChangesAlone g (FrontOrShort n) Wal a b
+      → ChangesAlone g StaysEmpty Wal a b
+  reset_crash n size change = alone_less g (FrontOrShort n) StaysEmpty Wal a b less change
     where
-      both : (x y z : List ℕ) → images_of g a Wal x → images_of g b Wal y → TornCut 0 x y
-          → TornWrite 0 n (g.extent b Wal) y z → StaysEmpty x z
-      both x y z left behind cut torn tables iteration empty =
-          let is = known (take 0) (g.content a Wal) (g.content b Wal) y emptied (synced y behind) in
-          let len = ap (λ (l : List ℕ). length l) is.2 ∙ length-take 0 is.0 in
-          (false, read_short tables iteration z (omega (arith, torn.no_longer, len, size)))
+      less : (d c : List ℕ) → images_of g a Wal d → FrontOrShort n d c → StaysEmpty d c
+      less d c left (inl front) tables iteration empty =
+          subst (λ (l : List ℕ). HoldsNothing tables iteration l) (sym front)
+          (front_nothing tables iteration (length c) d empty)
+      less d c left (inr short) tables iteration empty =
+          (false, read_short tables iteration c (omega (arith, short, size)))
 
 -- a header is one of its iteration
 header_written : (iteration : ℕ) → iteration < 2 ^ 64 → header_read iteration (log_header_bytes iteration) ≡ Ok false
@@ -131,14 +102,7 @@ new_fills iteration tables log fits is =
       end = refl;
     }
 
--- a log that is emptied and written
-pub told_fresh : (bytes : List ℕ) (old mid new : Option (List ℕ)) → mid ≡ option_map (take 0) old
-    → new ≡ option_map (overlay 0 bytes) mid → IfSome new (λ (w : List ℕ). w ≡ bytes)
-told_fresh bytes None mid new cut written = rw (written, cut) tt
-told_fresh bytes (Some m) mid new cut written =
-    rw (written, cut) (ap (λ (l : List ℕ). bytes ++ l)
-    (drop_all (0 + length bytes) (take 0 m) (omega (arith, length-take 0 m))) ∙ append-nil bytes)
-
+-- a known log
 pub told_is : (o : Option (List ℕ)) (c bytes : List ℕ) → o ≡ Some c → IfSome o (λ (w : List ℕ). w ≡ bytes)
     → c ≡ bytes
 told_is o c bytes is all = subst (λ (p : Option (List ℕ)). IfSome p (λ (w : List ℕ). w ≡ bytes)) is all

@@ -1,14 +1,12 @@
 -- What the calls that change the log do to it, and what a crash leaves of it at each moment between: a record for each.
-use Rattle.std.specs.Prelude.{◌≡◌, ◌⊎◌, ℕ, ◌+◌, ◌≤◌, ◌<◌, false, List, [], ◌∷◌, length, take, None, Some, Ok, IfSome}
+use Rattle.std.specs.Prelude.{◌≡◌, ◌⊎◌, ℕ, ◌+◌, ◌≤◌, ◌<◌, false, List, length, take, None, Some, Ok, IfSome}
 use Rattle.std.proofs.Common.{option_map}
 use Rattle.dk_device.specs.declared.device.Disk.{Ghosts}
 use Rattle.dk_device.specs.declared.device.TheConstants.{LAST_MOMENT}
 use Rattle.dk_device.specs.declared.device.FileId.TheVariants.{Wal}
-use Rattle.dk_device.specs.declared.calls.Request.TheVariants.{Write, Cut, Sync}
-use Rattle.dk_device.specs.Calls.{Call}
-use Rattle.dk_device.specs.Changes.{images_of, IsSynced, Changes, ChangesAlone}
+use Rattle.dk_device.specs.Calls.{Call, synced_replacement}
+use Rattle.dk_device.specs.Changes.{images_of, IsSynced, Changes, ChangesAlone, HoldsOnly}
 use Rattle.dk_device.specs.Disk.{overlay, Follows}
-use Rattle.dk_header.specs.declared.log.TheConstants.{LOG_HEADER_BYTES}
 use Rattle.dk_header.specs.LogLayout.{log_header_bytes}
 use Rattle.dk_pages.specs.declared.log.LogCommit.{LogCommit}
 use Rattle.dk_pages.specs.declared.tree.TableEntry.{TableEntry}
@@ -61,14 +59,11 @@ pub record AppendCrash {D : Type 0} (g : Ghosts D) (end : ℕ) (bytes : List ℕ
 
 -- a cut to nothing and a header, each with its sync
 abbrev pub log_reset : ℕ → List Call
-log_reset iteration =
-    (Wal, Cut 0) ∷ (Wal, Sync) ∷ (Wal, Write 0 (log_header_bytes iteration)) ∷ (Wal, Sync) ∷ []
+log_reset iteration = synced_replacement Wal (log_header_bytes iteration)
 
 -- a log of this iteration without records, and a crash leaves no other
 pub record IsReset {D : Type 0} (g : Ghosts D) (iteration : ℕ) (disk : D) : Type 0 where
-  pub content : IfSome (g.content disk Wal) (λ wal. wal ≡ log_header_bytes iteration)
-  pub extent : g.extent disk Wal ≡ LOG_HEADER_BYTES
-  pub synced : IsSynced g disk Wal
+  pub log : HoldsOnly g Wal (log_header_bytes iteration) disk
   pub filled : (c : List ℕ) → images_of g disk Wal c → (tables : List TableEntry)
       → IsFilled tables iteration (nothing false) c
   pub writes : StaysSynced g disk

@@ -7,7 +7,7 @@ ghost use Rattle.dk_device.specs.Changes.{IsWithin, ChangesAlone};
 ghost use Rattle.dk_device.specs.Disk.{TornWrite};
 ghost use Rattle.dk_wal.specs.Crashes.{IsAppended, AppendCrash, log_reset, IsReset, ResetCrash, IsCut, CutCrash};
 
-use dk_device::{Disk, DiskFault, FileId, cut_synced, write_synced};
+use dk_device::{Disk, DiskFault, FileId, cut_synced, replace_synced, write_synced};
 use dk_header::log_header;
 
 /// Writes a record at the end of the log and syncs, in two calls of the disk. Answers the new end. After a fault the log
@@ -34,9 +34,7 @@ pub fn reset<D: Disk>(disk: &mut D, iteration: u64) -> Result<(), DiskFault>
     ensures calls { Makes D.Disk (log_reset iteration) disk.old disk.new result }
     ensures cause { HasCause (D.faults disk.old) (D.faults disk.new) result }
 {
-    let header = log_header(iteration);
-    cut_synced(disk, FileId::Wal, 0)?;
-    write_synced(disk, FileId::Wal, 0, &header)?;
+    replace_synced(disk, FileId::Wal, &log_header(iteration))?;
     Ok(())
 }
 

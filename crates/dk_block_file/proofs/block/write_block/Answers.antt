@@ -1,5 +1,5 @@
 -- A block is written with its checksum.
-use Rattle.std.specs.Prelude.{◌≡◌, ℕ, List, length}
+use Rattle.std.specs.Prelude.{◌≡◌, ℕ, List}
 use Rattle.std.proofs.Common.{subst, sym, ◌∙◌}
 use Rattle.dk_device.specs.Calls.{Stopped, Did}
 use Rattle.dk_device.proofs.CallLemmas.{makes_failed}

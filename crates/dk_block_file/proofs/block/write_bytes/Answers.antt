@@ -1,6 +1,6 @@
 -- The bytes of a block are written at its place, in one call of the disk.
-use Rattle.std.specs.Prelude.{◌≡◌, ℕ, List, [], ◌∷◌, length}
-use Rattle.std.proofs.Common.{option_map, subst, arith}
+use Rattle.std.specs.Prelude.{ℕ, [], ◌∷◌, length}
+use Rattle.std.proofs.Common.{subst, arith}
 use Rattle.dk_device.specs.declared.device.FileId.TheVariants.{Main}
 use Rattle.dk_device.specs.declared.calls.Request.TheVariants.{Write}
 use Rattle.dk_device.specs.Calls.{Makes}

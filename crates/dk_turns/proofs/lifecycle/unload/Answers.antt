@@ -21,7 +21,8 @@ loop-turn-preserved g c =
       places = others.2 ∙ i.places;
       empty = emptied _ _ t others.1 i.empty;
       full = still_full _ _ t others.1 i.full;
-      taken = ap (λ l. Rattle.std.proofs.Common.map Some l) c.push_reserved.ensures.items ∙ map_some-snoc _ _ _ i.taken ∙ sym (take_at _ t (Some c.unwrap.result) at);
+      taken = ap (λ l. Rattle.std.proofs.Common.map Some l) c.push_reserved.ensures.items
+          ∙ map_some-snoc _ _ _ i.taken ∙ sym (take_at _ t (Some c.unwrap.result) at);
       counted = omega (arith, c.push_reserved.ensures.len, i.counted);
       room = c.push_reserved.ensures.capacity ∙ i.room;
     }

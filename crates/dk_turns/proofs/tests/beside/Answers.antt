@@ -23,7 +23,8 @@ pub release-requires-clause-held : goal.release-requires-clause-held
 release-requires-clause-held g c =
     let t = c.take-held.ensures in
     let small : 5 < TURNS = omega arith in
-    may_put_taken c.args.first.now.knowledge c.take-held.new.pass.knowledge 5 c.take-held.result small t.knowledge t.turn
+    may_put_taken c.args.first.now.knowledge c.take-held.new.pass.knowledge 5 c.take-held.result small t.knowledge
+    t.turn
 
 pub is_free-requires : goal.is_free-requires
 is_free-requires g c =
@@ -35,7 +36,9 @@ returns g c =
     let i = c.requires.idle c.args.first.now (inr (inl refl)) in
     let t = c.take-held.ensures in
     let r = c.release.ensures in
-    let second = stays_more c.args.second.now c.is_free-five.new.pass c.is_free-six.new.pass c.is_free-five.ensures c.is_free-six.ensures in
+    let second = stays_more c.args.second.now c.is_free-five.new.pass c.is_free-six.new.pass c.is_free-five.ensures
+    c.is_free-six.ensures in
     ready_pair c.args.turns.now.id c.args.first.now c.args.second.now c.release.new.pass c.is_free.new.pass
-    (stays_back c.args.first.now c.take-held.new.pass c.release.new.pass 5 c.take-held.result i.1 t.pass t.knowledge t.turn r.pass r.knowledge)
+    (stays_back c.args.first.now c.take-held.new.pass c.release.new.pass 5 c.take-held.result i.1 t.pass t.knowledge
+    t.turn r.pass r.knowledge)
     (stays_more c.args.second.now c.is_free-six.new.pass c.is_free.new.pass second c.is_free.ensures) c.requires

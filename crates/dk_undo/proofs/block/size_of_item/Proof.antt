@@ -39,21 +39,27 @@ module _ (X : RattleType) where
   abbrev fn' : Fn
   fn' = inst_fn args code.function
 
-  module _ {M : Type 1} {𝓤 : Ura M} (𝓛 : Logic 𝓤) (at_mem : Memory → SProp 𝓤) (run : Routine → Fun 𝓤) (𝓣 : Tables 𝓤 𝓛.H) where
+  module _ {M : Type 1} {𝓤 : Ura M} (𝓛 : Logic 𝓤) (at_mem : Memory → SProp 𝓤) (run : Routine → Fun 𝓤)
+      (𝓣 : Tables 𝓤 𝓛.H) where
     open 𝓛 use {H}
 
     abbrev clauses : Clauses 𝓤 (F.ended X)
     clauses = F.clauses X 𝓛 at_mem run
 
-    walk : (κ : Lft) (q : Share) → ent 𝓤 (on_entry 𝓛 (F.signature X) (κ, tt) (q, tt) tt tt) (WpFn 𝓤 H 𝓣.C 𝓣.Λ fn' [] ((walk_of 𝓛 (F.ended X) tt clauses).post (((κ, tt), (q, tt), tt, tt, tt), tt)))
+    walk : (κ : Lft) (q : Share)
+        → ent 𝓤 (on_entry 𝓛 (F.signature X) (κ, tt) (q, tt) tt tt)
+        (WpFn 𝓤 H 𝓣.C 𝓣.Λ fn' [] ((walk_of 𝓛 (F.ended X) tt clauses).post (((κ, tt), (q, tt), tt, tt, tt), tt)))
     walk κ q =
         let s : ℕ = capped (size (layout X)) in
         qed 𝓛 ((‵ (flft κ q) ⊛ ‵ ftrue) ∷ ‵ ftrue ∷ []) ∵ enter ! 𝓣.C 𝓣.Λ fn' [] _ $
         alloc_all ! (λ l. pass_all ! refl tt $
         sets ! (of_opd ! (size_word !)) refl (tt, record { fits = capped_fits (size (layout X)) }) $
         returns ! (look_at ! 0 refl) $ free_all ! refl $
-        suffices ! _ (ends_at 𝓛 (F.ended X) tt clauses (((κ, tt), (q, tt), tt, tt, tt), tt) (vint w64 s) s tt tt) $ says ! refl $
-        flt_i ! s (2 ^ 64) (capped_fits (size (layout X))) $ feq_i ! (List Val) (vint w64 s ∷ []) (vint w64 s ∷ []) refl $ fjoin ! $ nothing ! $ join ! $ move ! (1 ∷ 0 ∷ []) $ join ! $ keep ! (0 ∷ []) $ done !)
+        suffices ! _ (ends_at 𝓛 (F.ended X) tt clauses (((κ, tt), (q, tt), tt, tt, tt), tt) (vint w64 s) s tt tt) $
+        says ! refl $
+        flt_i ! s (2 ^ 64) (capped_fits (size (layout X))) $
+        feq_i ! (List Val) (vint w64 s ∷ []) (vint w64 s ∷ []) refl $ fjoin ! $ nothing ! $ join ! $
+        move ! (1 ∷ 0 ∷ []) $ join ! $ keep ! (0 ∷ []) $ done !)
 
     meets : Meets 𝓛 (F.signature X) (WpFn 𝓤 H 𝓣.C 𝓣.Λ fn') (closing 𝓛 (F.ended X) clauses)
     meets =
@@ -66,5 +72,6 @@ unfolding tables_of
 size_of_item_spec 𝓤 𝓛 𝓜 𝓡 wired X L =
     let A = 𝓛.A in
     let 𝓣 : Tables 𝓤 𝓛.H = tables_of 𝓤 𝓛.H 𝓜 (tables 𝓤 𝓛.H 𝓜 𝓡 𝓡.env) in
-    entered 𝓤 𝓛.H (triple_of 𝓛 (F.signature X) (F.spec X 𝓛 𝓜.mem 𝓡.returns)) 𝓣.C 𝓣.Λ (#self (args X)) (fn' X) (code.unfolded 𝓤 𝓛.H 𝓜 𝓡 wired (X, tt))
+    entered 𝓤 𝓛.H (triple_of 𝓛 (F.signature X) (F.spec X 𝓛 𝓜.mem 𝓡.returns)) 𝓣.C 𝓣.Λ (#self (args X)) (fn' X)
+    (code.unfolded 𝓤 𝓛.H 𝓜 𝓡 wired (X, tt))
     (meets X 𝓛 𝓜.mem 𝓡.returns 𝓣)

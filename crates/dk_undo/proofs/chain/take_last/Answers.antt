@@ -1,6 +1,6 @@
 -- The last entry leaves its place.
 use Rattle.std.proofs.Common.{◌+◌, ◌/◌, ◌%◌, length, sym, ap, ◌∙◌, arith}
-use Rattle.dk_undo.proofs.PackedLemmas.{packed-within, packed-at, take-packed, places-set}
+use Rattle.dk_undo.proofs.PackedLemmas.{packed-within, packed-at, take-last, places-set}
 use Rattle.dk_undo.proofs.chain.take_last.Goals as goal
 
 pub index_mut-requires : goal.index_mut-requires
@@ -10,20 +10,21 @@ index_mut-requires g c =
 pub take-requires : goal.take-requires
 take-requires g c =
     let m = c.args.at in let cs = c.args.chunks.now.items in let within = packed-within (m + 1) cs c.requires in
-    ap (λ h. length h.items) c.index_mut.ensures.value ∙ packed-at (m + 1) (m / 64) (m % 64 + 1) cs c.index_mut.result.now c.requires (omega arith) (omega arith) (omega arith)
+    ap (λ h. length h.items) c.index_mut.ensures.value
+    ∙ packed-at (m + 1) (m / 64) (m % 64 + 1) cs c.index_mut.result.now c.requires (omega arith) (omega arith)
+    (omega arith)
 
 pub returns-clause-packed : goal.returns-clause-packed
 returns-clause-packed g c =
-    let m = c.args.at in let cs = c.args.chunks.now.items in let within = packed-within (m + 1) cs c.requires in
-    (take-packed m (m / 64) (m % 64) cs c.index_mut.result.now c.take.new.self c.take.result c.requires (omega arith) (omega arith)
-    (sym (ap (λ h. h.items) c.index_mut.ensures.value) ∙ c.take.ensures.items) (omega arith)).0
+    (take-last c.args.at c.args.chunks.now.items c.index_mut.result.now c.take.new.self c.take.result c.requires
+    (sym (ap (λ h. h.items) c.index_mut.ensures.value) ∙ c.take.ensures.items)).0
 
 pub returns-clause-entries : goal.returns-clause-entries
 returns-clause-entries g c =
-    let m = c.args.at in let cs = c.args.chunks.now.items in let within = packed-within (m + 1) cs c.requires in
-    (take-packed m (m / 64) (m % 64) cs c.index_mut.result.now c.take.new.self c.take.result c.requires (omega arith) (omega arith)
-    (sym (ap (λ h. h.items) c.index_mut.ensures.value) ∙ c.take.ensures.items) (omega arith)).1
+    (take-last c.args.at c.args.chunks.now.items c.index_mut.result.now c.take.new.self c.take.result c.requires
+    (sym (ap (λ h. h.items) c.index_mut.ensures.value) ∙ c.take.ensures.items)).1
 
 pub returns-clause-places : goal.returns-clause-places
 returns-clause-places g c =
-    places-set c.args.chunks.now.items (c.args.at / 64) c.index_mut.result.now c.take.new.self (c.take.ensures.place ∙ ap (λ h. h.place) c.index_mut.ensures.value)
+    places-set c.args.chunks.now.items (c.args.at / 64) c.index_mut.result.now c.take.new.self (c.take.ensures.place
+    ∙ ap (λ h. h.place) c.index_mut.ensures.value)

@@ -13,10 +13,12 @@ read-requires g c =
 pub invariant_of-self : goal.invariant_of-self
 invariant_of-self g c =
     let here = ap (λ h. length h.items) c.self.view_is ∙ c.requires in let read = c.read.ensures in
-    (taken_from c.self.inside c.self.invariant c.read.new.self c.args.index c.read.result here read.slots.0 read.slots.1 read.value).0
+    (taken_from c.self.inside c.self.invariant c.read.new.self c.args.index c.read.result here read.slots.0
+    read.slots.1 read.value).0
 
 pub returns-clause-items : goal.returns-clause-items
 returns-clause-items g c =
     let here = ap (λ h. length h.items) c.self.view_is ∙ c.requires in let read = c.read.ensures in
     ap (λ h. h.items) (sym c.self.view_is)
-    ∙ (taken_from c.self.inside c.self.invariant c.read.new.self c.args.index c.read.result here read.slots.0 read.slots.1 read.value).1
+    ∙ (taken_from c.self.inside c.self.invariant c.read.new.self c.args.index c.read.result here read.slots.0
+    read.slots.1 read.value).1

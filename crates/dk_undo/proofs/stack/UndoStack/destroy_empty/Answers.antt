@@ -6,4 +6,5 @@ use Rattle.dk_undo.proofs.stack.UndoStack.destroy_empty.Goals as goal
 pub free_chunks-requires : goal.free_chunks-requires
 free_chunks-requires g c =
     let s = c.self.inside in let p = c.self.invariant.packed in
-    packed-empty s.len s.chunks.items p (sym (length-entries s.len s.chunks.items p) ∙ ap (λ v. length v.entries) c.self.view_is ∙ ap length c.requires)
+    packed-empty s.len s.chunks.items p (sym (length-entries s.len s.chunks.items p)
+    ∙ ap (λ v. length v.entries) c.self.view_is ∙ ap length c.requires)
