@@ -1,15 +1,13 @@
 -- The parts of a body.
 use Rattle.std.proofs.Common.{◌≡◌, ℕ, ◌+◌, ◌-◌, ◌*◌, ◌<◌, ◌≤◌, ◌^◌, max, fold, map, List, [], ◌∷◌, ◌++◌, length, Option, Some, None, option_map, refl, ap, sym, ◌∙◌, subst, append_assoc, arith}
 use Rattle.std.specs.List.{All, AllByRecursion}
-use Rattle.std.specs.Int.{w64, to_le_bytes}
 use Rattle.std.specs.Simd.Lanes.{number_l as number}
 use Rattle.std.proofs.lemmas.List.Elements.{All-from_recursion}
 use Rattle.dk_values.specs.declared.value.Value.{Value}
 use Rattle.dk_values.specs.declared.value.ColType.{ColType}
 use Rattle.dk_bytes.specs.Bits.{byte_count, packed}
-use Rattle.dk_seg_pack.specs.Packed.{rank_of, least, greatest, width_of, differences, half_turned, packed_bytes, value_of_rank, with_value, values_above}
+use Rattle.dk_seg_pack.specs.Packed.{rank_of, least, greatest, width_of, differences, fields, body_of, packed_bytes, value_of_rank, with_value, values_above}
 use Rattle.dk_bytes.proofs.DigitLemmas.{length-digits}
-use Rattle.dk_bytes.proofs.AppendLemmas.{three_joined}
 
 pub map_twice : {A : Type 0} (f : A → ℕ) (g : ℕ → ℕ) (xs : List A) → map g (map f xs) ≡ map (λ x. g (f x)) xs
 map_twice f g [] = refl
@@ -42,24 +40,16 @@ below_differences base width top (x ∷ xs) h all = (omega (arith, all.0), below
 pub differences_fit : (ranks : List ℕ) (width : ℕ) → greatest ranks - least ranks < 2 ^ width → AllByRecursion (λ d. d < 2 ^ width) (differences ranks)
 differences_fit ranks width h = below_differences (least ranks) width (greatest ranks) ranks h (below_greatest 0 ranks).1
 
-pub values_fit : (values : List Value) (ds : List ℕ) (base width : ℕ) → base ≡ least (map rank_of values) → ds ≡ map (λ value. rank_of value - base) values → greatest (map rank_of values) - least (map rank_of values) < 2 ^ width → All (λ d. d < 2 ^ width) ds
-values_fit values ds base width e f h =
-    let same : differences (map rank_of values) ≡ ds = map_twice rank_of (λ r. r - least (map rank_of values)) values ∙ ap (λ (b : ℕ). map (λ value. rank_of value - b) values) (sym e) ∙ sym f in
-    All-from_recursion (λ d. d < 2 ^ width) ds (subst (λ (xs : List ℕ). AllByRecursion (λ d. d < 2 ^ width) xs) same (differences_fit (map rank_of values) width h))
+-- the numbers of some things, above the least one
+module _ {A : Type 0} (f : A → ℕ) (xs : List A) (ds : List ℕ) (base : ℕ) (least_is : base ≡ least (map f xs)) (ds_are : ds ≡ map (λ x. f x - base) xs) where
+  are_differences : ds ≡ differences (map f xs)
+  are_differences = ds_are ∙ ap (λ (b : ℕ). map (λ x. f x - b) xs) least_is ∙ sym (map_twice f (λ r. r - least (map f xs)) xs)
 
--- the fields of a body, one behind the other
-pub fields_joined : (values : List Value) (ds : List ℕ) (base base' width : ℕ) (out out1 out2 out3 : List ℕ)
-    → base ≡ least (map rank_of values) → base' ≡ half_turned base → width ≡ width_of (map rank_of values) → ds ≡ map (λ value. rank_of value - base) values
-    → out1 ≡ out ++ to_le_bytes w64 base' → out2 ≡ out1 ++ width ∷ [] → out3 ≡ out2 ++ packed width ds → out3 ≡ out ++ packed_bytes values
-fields_joined values ds base base' width out out1 out2 out3 e e' f g p q r =
-    let same : ds ≡ differences (map rank_of values) = g ∙ ap (λ (b : ℕ). map (λ value. rank_of value - b) values) e ∙ sym (map_twice rank_of (λ r. r - least (map rank_of values)) values) in
-    let base_is : base' ≡ half_turned (least (map rank_of values)) = e' ∙ ap half_turned e in
-    let first : to_le_bytes w64 base' ≡ to_le_bytes w64 (half_turned (least (map rank_of values))) = ap (to_le_bytes w64) base_is in
-    let second : width ∷ packed width ds ≡ width_of (map rank_of values) ∷ packed (width_of (map rank_of values)) (differences (map rank_of values)) =
-    ap (λ (w : ℕ). w ∷ packed w ds) f ∙ ap (λ (xs : List ℕ). width_of (map rank_of values) ∷ packed (width_of (map rank_of values)) xs) same in
-    three_joined out (to_le_bytes w64 base') (width ∷ []) (packed width ds) out1 out2 out3 p q r
-    ∙ ap (λ (xs : List ℕ). out ++ (xs ++ (width ∷ packed width ds))) first
-    ∙ ap (λ (xs : List ℕ). out ++ (to_le_bytes w64 (half_turned (least (map rank_of values))) ++ xs)) second
+  pub all_fit : (width : ℕ) → greatest (map f xs) - least (map f xs) < 2 ^ width → All (λ d. d < 2 ^ width) ds
+  all_fit width h = All-from_recursion (λ d. d < 2 ^ width) ds (subst (λ (l : List ℕ). AllByRecursion (λ d. d < 2 ^ width) l) (sym are_differences) (differences_fit (map f xs) width h))
+
+  pub fields_are : (width : ℕ) → width ≡ width_of (map f xs) → fields base width ds ≡ body_of (map f xs)
+  fields_are width e = rw (least_is, e, are_differences) refl
 
 grown : (value : Value) (so_far : List Value) (rest : Option (List Value)) → option_map (λ values. (so_far ++ value ∷ []) ++ values) rest ≡ option_map (λ values. so_far ++ values) (with_value (Some value) rest)
 grown value so_far None = refl

@@ -55,9 +55,11 @@ abbrev pub differences : List ℕ → List ℕ
 differences ranks = map (λ r. r - least ranks) ranks
 
 -- the least number, the width, and the differences
+abbrev pub fields : ℕ → ℕ → List ℕ → List ℕ
+fields base width differences = to_le_bytes w64 (half_turned base) ++ (width ∷ packed width differences)
+
 abbrev pub body_of : List ℕ → List ℕ
-body_of ranks = to_le_bytes w64 (half_turned (least ranks))
-    ++ (width_of ranks ∷ packed (width_of ranks) (differences ranks))
+body_of ranks = fields (least ranks) (width_of ranks) (differences ranks)
 
 abbrev pub packed_bytes : List Value → List ℕ
 packed_bytes values = body_of (map rank_of values)

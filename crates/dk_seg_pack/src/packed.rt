@@ -2,11 +2,12 @@
 //! passed over.
 
 ghost use Rattle.std.specs.Prelude.{◌≡◌, ◌++◌, ◌↔◌, ◌≤◌, ◌<◌, ◌^◌, ◌+◌, ◌-◌, ◌*◌, ◌/◌, ◌==◌, ◌&&◌, true, [], length, take, map, IsTrue, IfOk, OnOk};
+ghost use Rattle.std.specs.List.{All};
 ghost use Rattle.std.specs.Simd.Lanes.{number_l as number};
 ghost use Rattle.dk_bytes.specs.PlainValue.{present};
 ghost use Rattle.dk_bytes.specs.Reading.{Gives};
 ghost use Rattle.dk_bytes.specs.Bits.{bit_width, unpacked};
-ghost use Rattle.dk_seg_pack.specs.Packed.{rank_of, least, greatest, width_of, packed_bytes, IsPacked, is_numeric, differences_at, numbers_at};
+ghost use Rattle.dk_seg_pack.specs.Packed.{rank_of, least, greatest, width_of, fields, packed_bytes, IsPacked, is_numeric, differences_at, numbers_at};
 ghost use Rattle.dk_seg_pack.specs.Above.{IsAbove, may_stand};
 
 use crate::rank::{are_ranks, half_turned, number_above, rank_of};
@@ -21,11 +22,11 @@ use std::alloc::Global;
 
 /// What a body says ahead of its differences.
 #[derive(Clone, Copy)]
-struct Frame {
+pub(crate) struct Frame {
     /// The least rank.
-    base: u64,
+    pub(crate) base: u64,
     /// How many bits each difference has.
-    width: u32,
+    pub(crate) width: u32,
 }
 
 /// Numbers of few bits above the least one.
@@ -119,12 +120,28 @@ fn put_body(values: &[Value], out: &mut Vec<u8>) -> Result<(), OutOfMemory>
     ensures ok { OnOk result (out.new.items ≡ out.old.items ++ packed_bytes (present values.now)) }
     ensures kept { take (length out.old.items) out.new.items ≡ out.old.items }
 {
-    let base = least(values);
-    let width = width_of(values);
-    let differences = differences(*out.allocator(), values, base)?;
-    put_u64(out, half_turned(base))?;
-    put_u8(out, width as u8)?;
-    pack(out, width, &differences)
+    let frame = Frame {
+        base: least(values),
+        width: width_of(values),
+    };
+    let differences = differences(*out.allocator(), values, frame.base)?;
+    put_fields(frame, &differences, out)
+}
+
+/// Appends the least number, the width and the differences. Without memory a part of them may have been appended.
+pub(crate) fn put_fields(
+    frame: Frame,
+    differences: &[u64],
+    out: &mut Vec<u8>,
+) -> Result<(), OutOfMemory>
+    requires width { frame.width ≤ 64 }
+    requires numbers { All (λ number. number < 2 ^ frame.width) differences.now }
+    ensures ok { OnOk result (out.new.items ≡ out.old.items ++ fields frame.base frame.width differences.now) }
+    ensures kept { take (length out.old.items) out.new.items ≡ out.old.items }
+{
+    put_u64(out, half_turned(frame.base))?;
+    put_u8(out, frame.width as u8)?;
+    pack(out, frame.width, differences)
 }
 
 /// What the values stand above that rank.

@@ -8,11 +8,17 @@ use dk_values::{ColType, Value};
 /// The rank of the number 0.
 const ZERO: u64 = 1 << 63;
 
-/// The rank of a number.
 fn signed_rank(number: i64) -> u64
     ensures { result ≡ rank number }
 {
     number.cast_unsigned().wrapping_add(ZERO)
+}
+
+/// The rank of a number.
+pub(crate) fn rank_at(number: &i64) -> u64
+    ensures { result ≡ rank number.now }
+{
+    signed_rank(*number)
 }
 
 /// How far the value's number stands above the least one of 64 bits.

@@ -3,3 +3,4 @@ pub mod RunBodyLemmas
 pub mod RunLoopLemmas
 pub mod ConstantLemmas
 pub mod RunFaultLemmas
+pub mod NumberRunLemmas

@@ -9,14 +9,14 @@ use Rattle.dk_bytes.proofs.SameLemmas.{same_true, same_self}
 use Rattle.dk_seg_run.specs.RunLength.{passes, expanded, run_of, with_value, runs_of, IsRun, repeats}
 
 -- a value before the runs of the values after it, where their first run is known
-with_same : (v : Value) (n : ℕ) (runs : List Run) → with_value v (run_of v n ∷ runs) ≡ run_of v (n + 1) ∷ runs
+pub with_same : (v : Value) (n : ℕ) (runs : List Run) → with_value v (run_of v n ∷ runs) ≡ run_of v (n + 1) ∷ runs
 with_same v n runs = rw same_self refl
 
-with_other : (v w : Value) (n : ℕ) (runs : List Run) → same v w ≡ false → with_value v (run_of w n ∷ runs) ≡ run_of v 1 ∷ run_of w n ∷ runs
+pub with_other : (v w : Value) (n : ℕ) (runs : List Run) → same v w ≡ false → with_value v (run_of w n ∷ runs) ≡ run_of v 1 ∷ run_of w n ∷ runs
 with_other v w n runs e = rw e refl
 
 -- the first run takes the values at the front that are the first one
-front_run : (v : Value) (vs : List Value) → runs_of (v ∷ vs) ≡ run_of v (prefix_len (same v) vs + 1) ∷ runs_of (drop (prefix_len (same v) vs) vs)
+pub front_run : (v : Value) (vs : List Value) → runs_of (v ∷ vs) ≡ run_of v (prefix_len (same v) vs + 1) ∷ runs_of (drop (prefix_len (same v) vs) vs)
 front_run v [] = refl
 front_run v (w ∷ vs) = by_test (same v w) refl (front_run v vs) (front_run w vs)
   where

@@ -6,6 +6,7 @@
 #![tactic(auto)]
 
 pub mod constant;
+pub mod number_runs;
 pub mod run_length;
 #[cfg(test)]
 mod tests;

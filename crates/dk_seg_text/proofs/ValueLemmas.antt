@@ -1,7 +1,10 @@
 -- Values read one behind the other.
-use Rattle.std.proofs.Common.{◌≡◌, ℕ, zero, suc, ◌+◌, ◌<◌, ◌^◌, length, List, [], ◌∷◌, ◌++◌, Result, Ok, Err, refl, sym, ap, subst, ◌∙◌, append-nil, length-append, arith}
+use Rattle.std.proofs.Common.{◌≡◌, ℕ, ℤ, zero, suc, ◌+◌, ◌<◌, ◌^◌, length, List, [], ◌∷◌, ◌++◌, Result, Ok, Err, refl, sym, ap, subst, ◌∙◌, append-nil, length-append, arith}
 use Rattle.dk_bytes.specs.Bodies.{IsCodec}
-use Rattle.std.specs.List.{AllByRecursion}
+use Rattle.std.specs.List.{All, AllByRecursion}
+use Rattle.std.proofs.lemmas.List.{map-append}
+use Rattle.dk_columns.proofs.StoredLemmas.{all_more}
+use Rattle.dk_seg_body.specs.Numbers.{StandsFor, value_for, values_for}
 use Rattle.dk_values.specs.declared.value.ColType.{ColType}
 use Rattle.dk_values.specs.declared.value.Value.{Value}
 use Rattle.dk_bytes.specs.Fields.{IsBytes, Place}
@@ -20,6 +23,15 @@ one_value kind values value m n p q all e r h =
     let read : with_front values (values_at kind n q >>= λ others. Ok (value ∷ others.0, others.1)) ≡ all
     = subst (λ (s : Result (Value × Place) ℕ). with_front values (s >>= λ x. values_at kind n x.1 >>= λ others. Ok (x.0 ∷ others.0, others.1)) ≡ all) r next in
     front_snoc values value (values_at kind n q) ∙ read
+
+-- one more number is read
+pub one_number : (kind : ColType) (numbers numbers' : List ℤ) (number kept : ℤ) (m n : ℕ) (p q : Place) (all : Result (List Value × Place) ℕ) → m ≡ suc n → kept ≡ number → numbers' ≡ numbers ++ kept ∷ [] → value_at kind p ≡ Ok (value_for kind number, q) → with_front (values_for kind numbers) (values_at kind m p) ≡ all → with_front (values_for kind numbers') (values_at kind n q) ≡ all
+one_number kind numbers numbers' number kept m n p q all e k pushed r h =
+    rw (pushed, k, map-append (value_for kind) numbers (number ∷ [])) (one_value kind (values_for kind numbers) (value_for kind number) m n p q all e r h)
+
+pub more_stand : (kind : ColType) (numbers numbers' : List ℤ) (number kept : ℤ) → kept ≡ number → numbers' ≡ numbers ++ kept ∷ [] → StandsFor kind number → All (StandsFor kind) numbers → All (StandsFor kind) numbers'
+more_stand kind numbers numbers' number kept k pushed stands all =
+    all_more {A = ℤ} (StandsFor kind) {E = ℕ} (Ok tt) numbers numbers' kept all (subst (λ (n : ℤ). StandsFor kind n) (sym k) stands) pushed tt
 
 -- a value that is not read ends the reading
 pub failed_value : (kind : ColType) (values : List Value) (m n : ℕ) (p : Place) (all : Result (List Value × Place) ℕ) → m ≡ suc n → with_front values (values_at kind m p) ≡ all → (at : ℕ) → value_at kind p ≡ Err at → all ≡ Err at

@@ -2,3 +2,5 @@ pub mod BodyLemmas
 pub mod NullLemmas
 pub mod ChoiceLemmas
 pub mod SegmentLemmas
+pub mod NumberSizeLemmas
+pub mod ColumnNumberLemmas

@@ -1,3 +1,4 @@
 pub mod Bodies
 pub mod Segment
 pub mod Choice
+pub mod Profile

@@ -1,7 +1,7 @@
 //! The choice of the smallest encoding.
-ghost use Rattle.std.specs.Prelude.{◌≡◌, ◌+◌, ◌↔◌, length, IsSome, IfSome};
+ghost use Rattle.std.specs.Prelude.{◌≡◌, ◌↔◌, length, IsSome, IfSome};
 ghost use Rattle.dk_segment.specs.Bodies.{Holds, body_of};
-ghost use Rattle.dk_segment.specs.Choice.{IsBest, IsBestFrom, place_of};
+ghost use Rattle.dk_segment.specs.Choice.{IsBest, AreSizes, better, best_of};
 ghost use Rattle.dk_segment.specs.Segment.{IsColumn};
 ghost use Rattle.dk_bytes.specs.PlainValue.{present};
 
@@ -16,64 +16,70 @@ pub(crate) struct Choice {
     pub(crate) size: usize,
 }
 
+/// How long the body of each encoding is that holds the values. The plain one holds them all.
+#[derive(Clone, Copy)]
+pub(crate) struct Sizes {
+    pub(crate) constant: Option<usize>,
+    pub(crate) run_length: Option<usize>,
+    pub(crate) packed: Option<usize>,
+    pub(crate) dictionary: Option<usize>,
+    pub(crate) plain: usize,
+}
+
 /// The encoding of least size for the values that are present, ties to the first.
 pub fn analyse(values: &[Value], kind: ColType) -> Encoding
     requires { IsColumn kind values.now }
     ensures { IsBest kind (present values.now) result }
 {
-    best(values, kind, body_size(Encoding::Dictionary, values, kind))
+    best_for(values, kind, body_size(Encoding::Dictionary, values, kind))
 }
 
 /// The encoding of least size, where the length of a dictionary is known.
-pub(crate) fn best(values: &[Value], kind: ColType, dictionary: Option<usize>) -> Encoding
+pub(crate) fn best_for(values: &[Value], kind: ColType, dictionary: Option<usize>) -> Encoding
     requires plain { Holds Encoding.Plain kind (present values.now) }
     requires held { IsSome dictionary ↔ Holds Encoding.Dictionary kind (present values.now) }
     requires length { IfSome dictionary (λ n. n ≡ length (body_of Encoding.Dictionary (present values.now))) }
     ensures { IsBest kind (present values.now) result }
 {
-    let Some(size) = body_size(Encoding::Plain, values, kind) else {
+    best(sizes_of(values, kind, dictionary))
+}
+
+/// The lengths of the bodies, where that of a dictionary is known.
+fn sizes_of(values: &[Value], kind: ColType, dictionary: Option<usize>) -> Sizes
+    requires plain { Holds Encoding.Plain kind (present values.now) }
+    requires held { IsSome dictionary ↔ Holds Encoding.Dictionary kind (present values.now) }
+    requires length { IfSome dictionary (λ n. n ≡ length (body_of Encoding.Dictionary (present values.now))) }
+    ensures { AreSizes kind (present values.now) result }
+{
+    let Some(plain) = body_size(Encoding::Plain, values, kind) else {
         unreachable!();
     };
-    let last = Choice {
-        encoding: Encoding::Plain,
-        size,
-    };
-    let choice = better(last, Encoding::Dictionary, dictionary, values, kind);
-    let choice = with_one_more(choice, Encoding::Packed, values, kind);
-    let choice = with_one_more(choice, Encoding::RunLength, values, kind);
-    with_one_more(choice, Encoding::Constant, values, kind).encoding
+    Sizes {
+        constant: body_size(Encoding::Constant, values, kind),
+        run_length: body_size(Encoding::RunLength, values, kind),
+        packed: body_size(Encoding::Packed, values, kind),
+        dictionary,
+        plain,
+    }
 }
 
-fn with_one_more(choice: Choice, encoding: Encoding, values: &[Value], kind: ColType) -> Choice
-    requires best { IsBestFrom (place_of encoding + 1) kind (present values.now) choice.encoding }
-    requires size { choice.size ≡ length (body_of choice.encoding (present values.now)) }
-    ensures best { IsBestFrom (place_of encoding) kind (present values.now) result.encoding }
-    ensures size { result.size ≡ length (body_of result.encoding (present values.now)) }
+/// The first encoding of least size.
+pub(crate) fn best(sizes: Sizes) -> Encoding
+    ensures { result ≡ best_of sizes }
 {
-    better(
-        choice,
-        encoding,
-        body_size(encoding, values, kind),
-        values,
-        kind,
-    )
+    let plain = Choice {
+        encoding: Encoding::Plain,
+        size: sizes.plain,
+    };
+    let choice = better(plain, Encoding::Dictionary, sizes.dictionary);
+    let choice = better(choice, Encoding::Packed, sizes.packed);
+    let choice = better(choice, Encoding::RunLength, sizes.run_length);
+    better(choice, Encoding::Constant, sizes.constant).encoding
 }
 
-/// Of a choice among the later encodings and one more, the one of less size; a tie goes to the one more. The values are
-/// those that both have to hold.
-fn better(
-    choice: Choice,
-    encoding: Encoding,
-    size: Option<usize>,
-    values: &[Value],
-    kind: ColType,
-) -> Choice
-    requires best { IsBestFrom (place_of encoding + 1) kind (present values.now) choice.encoding }
-    requires size { choice.size ≡ length (body_of choice.encoding (present values.now)) }
-    requires held { IsSome size ↔ Holds encoding kind (present values.now) }
-    requires length { IfSome size (λ n. n ≡ length (body_of encoding (present values.now))) }
-    ensures best { IsBestFrom (place_of encoding) kind (present values.now) result.encoding }
-    ensures size { result.size ≡ length (body_of result.encoding (present values.now)) }
+/// Of a choice among the later encodings and one more, the one of less size; a tie goes to the one more.
+fn better(choice: Choice, encoding: Encoding, size: Option<usize>) -> Choice
+    ensures { result ≡ better choice encoding size }
 {
     match size {
         Some(size) if size <= choice.size => Choice { encoding, size },

@@ -3,13 +3,15 @@
 //! `specs/Segment.antt` says which byte strings are segments of a type, and of which values; `decode` answers those
 //! values for exactly these strings, and the place of the first fault for all others. `decode_cells` reads them straight
 //! into a column, whose memory it uses again. `encode`, and `encode_cells` of a column, write the encoding of least size
-//! that `analyse` names, ties to the first of `Encoding`. Stands on the crates of the encodings, `dk_columns`,
-//! `dk_bytes` and `dk_values`.
+//! that `analyse` names, ties to the first of `Encoding`; truths and numbers without nulls are written straight from the
+//! column's words, whose profile gives all sizes (`specs/Profile.antt`). Stands on the crates of the encodings,
+//! `dk_columns`, `dk_bytes` and `dk_values`.
 #![tactic(auto)]
 
 mod bodies;
 mod choice;
 mod encoding;
+mod numbers;
 mod present;
 mod reading;
 mod writing;

@@ -1,5 +1,5 @@
 //! How a segment is written.
-ghost use Rattle.std.specs.Prelude.{◌≡◌, ◌++◌, ◌∷◌, length, IfOk, OnOk};
+ghost use Rattle.std.specs.Prelude.{◌≡◌, ◌++◌, ◌∷◌, length, map, IfOk, IfSome, OnOk};
 ghost use Rattle.std.specs.List.{list_all};
 ghost use Rattle.std.specs.Int.{w32, to_le_bytes};
 ghost use Rattle.dk_segment.specs.declared.encoding.Encoding.{Encoding};
@@ -7,10 +7,15 @@ ghost use Rattle.dk_segment.specs.Bodies.{Holds, body_of, code_of};
 ghost use Rattle.dk_segment.specs.Choice.{IsBest};
 ghost use Rattle.dk_segment.specs.Segment.{IsColumn, mask_flag, mask_bytes, segment_bytes, IsSegment};
 ghost use Rattle.dk_bytes.specs.PlainValue.{is_present, present};
+ghost use Rattle.dk_columns.specs.Columns.{number_of};
+ghost use Rattle.dk_columns.specs.Stored.{IsNumeric};
+ghost use Rattle.dk_seg_body.specs.Numbers.{values_for};
+ghost use Rattle.dk_segment.specs.Profile.{AreFew, AreAllThere, IsProfile, number_segment};
 
 use crate::bodies::put_body;
-use crate::choice::best;
+use crate::choice::{best, best_for};
 use crate::encoding::{Encoding, code_of};
+use crate::numbers::{Profile, number_sizes, profile_of, put_number_body};
 use crate::present::{are_present, flags_of};
 use dk_bytes::{pack, put_u8, put_u32};
 use dk_columns::Cells;
@@ -25,12 +30,82 @@ pub fn encode(alloc: Global, values: &[Value], kind: ColType) -> Result<Vec<u8>,
         × IsSegment kind encoding values.now v.items) }
 {
     let dictionary = dictionary::size_in(alloc, values, kind)?;
-    let encoding = best(values, kind, dictionary);
+    let encoding = best_for(values, kind, dictionary);
     spell(alloc, encoding, values, kind)
 }
 
-/// The segment of a column's values in the encoding of least size. A list of the values is made for it.
+/// The segment of a column's values in the encoding of least size. Of truths and numbers without a null it is written
+/// straight from their words; else a list of the values is made for it.
 pub fn encode_cells(alloc: Global, cells: &Cells) -> Result<Vec<u8>, OutOfMemory>
+    requires { IsColumn cells.now.kind cells.now.values }
+    ensures { IfOk result (λ v. (encoding : Encoding) × IsBest cells.now.kind (present cells.now.values) encoding
+        × IsSegment cells.now.kind encoding cells.now.values v.items) }
+{
+    match whole_numbers(cells) {
+        Some(numbers) => encode_numbers(alloc, cells, numbers),
+        None => encode_values(alloc, cells),
+    }
+}
+
+/// Lends the words of a column of truths or numbers, where none of them is known to be null.
+fn whole_numbers(cells: &Cells) -> Option<&[i64]>
+    ensures numeric { IfSome result (λ _. IsNumeric cells.now.kind) }
+    ensures numbers { IfSome result (λ numbers. numbers.now ≡ map number_of cells.now.values) }
+    ensures whole { IfSome result (λ _. AreAllThere cells.now.values) }
+{
+    match cells.kind() {
+        ColType::Text => None,
+        _ if cells.present().is_whole() => cells.numbers(),
+        _ => None,
+    }
+}
+
+/// The segment of the values of a column without nulls, whose words these are.
+fn encode_numbers(alloc: Global, cells: &Cells, numbers: &[i64]) -> Result<Vec<u8>, OutOfMemory>
+    requires column { IsColumn cells.now.kind cells.now.values }
+    requires numeric { IsNumeric cells.now.kind }
+    requires numbers { numbers.now ≡ map number_of cells.now.values }
+    requires whole { AreAllThere cells.now.values }
+    ensures { IfOk result (λ v. (encoding : Encoding) × IsBest cells.now.kind (present cells.now.values) encoding
+        × IsSegment cells.now.kind encoding cells.now.values v.items) }
+{
+    spell_numbers(alloc, numbers, cells.kind())
+}
+
+/// The segment of the values that the numbers stand for.
+fn spell_numbers(alloc: Global, numbers: &[i64], kind: ColType) -> Result<Vec<u8>, OutOfMemory>
+    requires { AreFew kind numbers.now }
+    ensures { IfOk result (λ v. (encoding : Encoding) × IsBest kind (values_for kind numbers.now) encoding
+        × (v.items ≡ number_segment encoding kind numbers.now)) }
+{
+    let profile = profile_of(numbers);
+    let encoding = best(number_sizes(numbers, kind, profile));
+    spell_as(alloc, encoding, numbers, kind, profile)
+}
+
+/// Their segment in this encoding.
+fn spell_as(
+    alloc: Global,
+    encoding: Encoding,
+    numbers: &[i64],
+    kind: ColType,
+    profile: Profile,
+) -> Result<Vec<u8>, OutOfMemory>
+    requires few { AreFew kind numbers.now }
+    requires profile { IsProfile numbers.now profile }
+    requires holds { Holds encoding kind (values_for kind numbers.now) }
+    ensures { IfOk result (λ v. v.items ≡ number_segment encoding kind numbers.now) }
+{
+    let mut out = Vec::new(alloc);
+    put_u8(&mut out, code_of(encoding))?;
+    put_u8(&mut out, 0)?;
+    put_u32(&mut out, numbers.len() as u32)?;
+    put_number_body(encoding, numbers, kind, profile, &mut out)?;
+    Ok(out)
+}
+
+/// The segment of the values of a column, of which a list is made.
+fn encode_values(alloc: Global, cells: &Cells) -> Result<Vec<u8>, OutOfMemory>
     requires { IsColumn cells.now.kind cells.now.values }
     ensures { IfOk result (λ v. (encoding : Encoding) × IsBest cells.now.kind (present cells.now.values) encoding
         × IsSegment cells.now.kind encoding cells.now.values v.items) }

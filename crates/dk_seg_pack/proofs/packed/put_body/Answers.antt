@@ -1,20 +1,15 @@
-use Rattle.std.proofs.Common.{◌∙◌}
-use Rattle.dk_bytes.proofs.AppendLemmas.{kept_behind}
-use Rattle.std.proofs.lemmas.Result.{on_ok_weaker}
+use Rattle.std.proofs.Common.{◌∙◌, ◌≡◌, ◌++◌, List, ℕ, ap, subst}
+use Rattle.std.specs.Prelude.{OnOk}
 use Rattle.dk_bytes.specs.PlainValue.{present}
-use Rattle.dk_seg_pack.proofs.BodyLemmas.{values_fit, fields_joined}
+use Rattle.dk_seg_pack.specs.Packed.{rank_of}
+use Rattle.dk_seg_pack.proofs.BodyLemmas.{all_fit, fields_are}
 use Rattle.dk_seg_pack.proofs.packed.put_body.Goals as goal
 
-pub pack-requires-clause-numbers : goal.pack-requires-clause-numbers
-pack-requires-clause-numbers c =
-    values_fit (present c.args.values.now) _ _ _ c.least-base.ensures (c.deref.ensures.value ∙ c.in_ok-differences.ensures) c.width_of-width.ensures.fits
+pub put_fields-requires-clause-numbers : goal.put_fields-requires-clause-numbers
+put_fields-requires-clause-numbers c =
+    all_fit rank_of (present c.args.values.now) _ _ c.least.ensures (c.deref.ensures.value ∙ c.in_ok-differences.ensures) _ c.width_of.ensures.fits
 
 pub returns-clause-ok : goal.returns-clause-ok
 returns-clause-ok c =
-    on_ok_weaker _
-    (fields_joined (present c.args.values.now) c.deref.result.now c.least-base.result c.half_turned.result c.width_of-width.result c.args.out.now.items c.put_u64.new.out.items c.put_u8.new.out.items c.pack.new.out.items
-    c.least-base.ensures c.half_turned.ensures c.width_of-width.ensures.value (c.deref.ensures.value ∙ c.in_ok-differences.ensures) c.in_ok-put_u64.ensures.ok c.in_ok-put_u8.ensures.ok)
-    c.pack.ensures.ok
-
-pub returns-clause-kept : goal.returns-clause-kept
-returns-clause-kept c = kept_behind _ _ _ c.put_u64.new.out.items c.put_u8.new.out.items _ c.in_ok-put_u64.ensures.ok c.in_ok-put_u8.ensures.ok c.pack.ensures.kept
+    let same = fields_are rank_of (present c.args.values.now) _ _ c.least.ensures (c.deref.ensures.value ∙ c.in_ok-differences.ensures) _ c.width_of.ensures.value in
+    subst (λ (l : List ℕ). OnOk c.put_fields.result (c.put_fields.new.out.items ≡ c.args.out.now.items ++ l)) same c.put_fields.ensures.ok
