@@ -1,9 +1,10 @@
 //! Statements: the rules that begin with a word of their own, and the text as a whole.
-ghost use Rattle.std.specs.Prelude.{◌≡◌, ◌<◌, ◌≤◌, ◌^◌, length, IfOk, IfErr};
+ghost use Rattle.std.specs.Prelude.{◌≡◌, ◌<◌, ◌≤◌, ◌^◌, length, true, IfOk, IfErr};
 ghost use Rattle.dk_sql.specs.Readers.{Outcome, Gives, Stops};
 ghost use Rattle.dk_sql.specs.Statements.{kind_of, kind_at, column_at, tuple_at, set_at, create_at, insert_query_at, inserted_at, insert_at, copy_at, select_at, update_at, delete_at, single_of, single_at, statement_by, statement_at, at_end, whole_at, placed, statement_of, Refuses, Parses, IsWithin};
 ghost use Rattle.dk_sql.specs.Expressions.{literal_at};
 ghost use Rattle.dk_syntax.specs.declared.statement.Statement.{Statement};
+ghost use Rattle.dk_syntax.specs.LawfulStatements.{is_lawful};
 
 use crate::expressions::{expr, literal};
 use crate::fault::{ParseError, Stop};
@@ -289,11 +290,15 @@ fn refusal(len: usize, stop: Stop) -> ParseError
 }
 
 /// The statement that the whole text is, with the places of its names and literals in it, or the place of the first
-/// fault of the text. `copy` are the data of a COPY, which stand outside its text.
+/// fault of the text. `copy` are the data of a COPY, which stand outside its text. Whatever statement a text is, is
+/// lawful: names have their length, texts are UTF-8, and so on.
+#[tactic(auto, using(crate::proofs::LawfulLemmas::lawful_of, crate::proofs::LawfulLemmas::lawful_when))]
 pub fn parse(alloc: Global, text: &[u8], copy: &[u8]) -> Result<Statement, ParseError>
     requires { length text.now < 2 ^ 32 }
     ensures exact { Parses result (statement_of text.now copy.now) }
     ensures within { IfErr result (IsWithin (length text.now)) }
+    ensures lawful { IfOk (statement_of text.now copy.now) (λ statement. is_lawful statement ≡ true) }
+    ensures given { IfOk result (λ statement. is_lawful statement ≡ true) }
 {
     match whole(alloc, text, copy) {
         Ok(statement) => Ok(statement),
