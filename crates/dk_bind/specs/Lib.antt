@@ -1,0 +1,5 @@
+pub mod Outcomes
+pub mod Lists
+pub mod Expressions
+pub mod Queries
+pub mod Statements
