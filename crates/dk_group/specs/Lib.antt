@@ -1,0 +1,5 @@
+pub mod Stacks
+pub mod HidingLaws
+pub mod Vectors
+pub mod Changes
+pub mod Spare

@@ -1,0 +1,24 @@
+-- The first rows of a vector whose rows have the same stamps.
+use Rattle.std.proofs.Common.{ℕ, zero, suc, ◌≡◌, ◌<◌, ◌≤◌, ◌∷◌, map, length, take, replicate, refl, ap, sym, ◌∙◌, ◌⊎◌, inl, inr, arith}
+use Rattle.std.specs.Prelude.{min}
+use Rattle.std.proofs.lemmas.Bool.{cases_lt}
+use Rattle.std.proofs.lemmas.List.{take-replicate, take_all, length-replicate}
+use Rattle.dk_version.specs.declared.stamps.Stamp.{Stamp}
+
+pub front : (n count m : ℕ) (stamp : Stamp) → m ≡ min count n → take n (replicate count stamp) ≡ replicate m stamp
+front n count m stamp is = so (cases_lt n count)
+  where
+    so : ((n < count) ⊎ (count ≤ n)) → take n (replicate count stamp) ≡ replicate m stamp
+    so (inl less) =
+        let same : m ≡ n = omega (arith, is, less) in
+        let within : n ≤ count = omega (arith, less) in
+        take-replicate n count stamp within ∙ ap (λ k. replicate k stamp) (sym same)
+    so (inr more) =
+        let same : m ≡ count = omega (arith, is, more) in
+        let long : length (replicate count stamp) ≤ n = omega (arith, length-replicate count stamp, more) in
+        take_all n (replicate count stamp) long ∙ ap (λ k. replicate k stamp) (sym same)
+
+-- the same stamps of all rows, changed alike
+pub map_same : (f : Stamp → Stamp) (n : ℕ) (stamp : Stamp) → map f (replicate n stamp) ≡ replicate n (f stamp)
+map_same f zero stamp = refl
+map_same f (suc n) stamp = ap (λ l. f stamp ∷ l) (map_same f n stamp)
