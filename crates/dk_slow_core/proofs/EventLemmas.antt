@@ -1,8 +1,10 @@
 -- The core behind each event, by its parts.
 use Rattle.std.proofs.Common.{◌≡◌, ℕ, ◌-◌, true, false, List, [], ◌∷◌, ◌++◌, Some, None, slice_set, ap, ◌∙◌, sym, refl}
 use Rattle.std.specs.Prelude.{Bool, Option, option_map, if◌then◌else◌}
+use Rattle.dk_values.specs.declared.value.Value.{Value}
 use Rattle.dk_types.specs.declared.reply.Refusal.TheVariants as refusal
 use Rattle.dk_types.specs.declared.reply.Reply.{Reply}
+use Rattle.dk_types.specs.declared.vector.VectorId.{VectorId}
 use Rattle.dk_si.specs.declared.history.Asked.{Asked}
 use Rattle.dk_si.specs.declared.history.Entry.{Entry}
 use Rattle.dk_si.specs.declared.history.Entry.TheVariants as entry
@@ -13,9 +15,9 @@ use Rattle.dk_si.proofs.StandingLemmas.{standing_and_one}
 use Rattle.dk_core.specs.Core.{Core, no_seat, seat_at, next_snapshot}
 use Rattle.dk_core.specs.Entries.{state_with, standing_with, with_entry}
 use Rattle.dk_core.specs.Findings.{is_full, spent_numbers}
-use Rattle.dk_core.specs.Step.{seat_after_reply}
-use Rattle.dk_slow_core.specs.Moves.{entered, machine_behind, standing_behind, standing_of, core_behind}
-use Rattle.dk_slow_core.specs.Seats.{with_seat, begun_entry, seats_with, seats_put}
+use Rattle.dk_core.specs.Step.{seat_after_reply, without_oldest, without_newest}
+use Rattle.dk_slow_core.specs.Moves.{entered, placed, machine_behind, standing_behind, standing_of, core_behind}
+use Rattle.dk_slow_seats.specs.Seats.{with_seat, begun_entry, seats_with, seats_put}
 
 pub standing_first : (iteration : ℕ) → standing_of iteration [] ≡ first_standing
 unfolding standing_of
@@ -96,3 +98,37 @@ pub begin_behind : (core : Core) (number : ℕ) → is_full core ≡ false
     ≡ core_behind core (event.Begin number)
 unfolding begin_as machine_behind standing_behind
 begin_behind core number full = ap (begin_as core number) (sym full) ∙ begin_is core number
+
+-- ---- events that change versions alone, or nothing
+
+pub stamp_behind : (core : Core) (number : ℕ)
+    → seats_with core number (λ seat. record seat { versions = without_oldest seat.versions })
+    ≡ core_behind core (event.Stamp number)
+unfolding core_behind
+stamp_behind core number = refl
+
+pub undo_behind : (core : Core) (number : ℕ)
+    → seats_with core number (λ seat. record seat { versions = without_newest seat.versions })
+    ≡ core_behind core (event.Undo number)
+unfolding core_behind
+undo_behind core number = refl
+
+pub drop_behind : (core : Core) (at : VectorId) (bound : ℕ) → core ≡ core_behind core (event.Drop at bound)
+unfolding core_behind
+drop_behind core at bound = refl
+
+pub settle_behind : (core : Core) (table group root : ℕ) → core ≡ core_behind core (event.Settle table group root)
+unfolding core_behind
+settle_behind core table group root = refl
+
+-- ---- rows that are placed
+
+pub append_behind : (core : Core) (number table group first : ℕ) (rows : List (List Value))
+    → placed core number table group rows ≡ core_behind core (event.Append number table group first rows)
+unfolding core_behind
+append_behind core number table group first rows = refl
+
+pub adopt_behind : (core : Core) (number table group first : ℕ) (rows : List (List Value))
+    → placed core number table group rows ≡ core_behind core (event.Adopt number table group first rows)
+unfolding core_behind
+adopt_behind core number table group first rows = refl

@@ -1,1 +1,4 @@
 pub mod EventLemmas
+pub mod PlaceLemmas
+pub mod ChangeLemmas
+pub mod BoundLemmas

@@ -1,5 +1,6 @@
 -- What an entry makes of the machine: of one session, of the commits, and of the number of begun transactions.
-use Rattle.std.specs.Prelude.{ℕ, ◌-◌, List, ◌++◌, ◌∷◌, [], Option, Some, None, option_to_list, slice_set}
+use Rattle.std.specs.Prelude.{ℕ, ◌+◌, ◌-◌, ◌^◌, ◌<◌, List, ◌++◌, ◌∷◌, [], length, Option, Some, None, option_to_list, slice_set}
+use Rattle.dk_values.specs.declared.value.Value.{Value}
 use Rattle.dk_types.specs.declared.net.Commit.{Commit}
 use Rattle.dk_si.specs.declared.database.Table.{Table}
 use Rattle.dk_si.specs.declared.history.Entry.{Entry}
@@ -9,7 +10,9 @@ use Rattle.dk_si.specs.Machine.{next}
 use Rattle.dk_si.specs.Standing.{FullStanding, standing_and, standing_after}
 use Rattle.dk_core.specs.declared.event.Event.{Event}
 use Rattle.dk_core.specs.Core.{Core}
-use Rattle.dk_core.specs.Step.{step}
+use Rattle.dk_core.specs.Layout.{groups_of, rows_in}
+use Rattle.dk_core.specs.Step.{step, appended_part, with_placed}
+use Rattle.dk_slow_seats.specs.Seats.{seats_with, with_version}
 use Rattle.dk_slow_core.specs.declared.state.Move.{Move}
 
 abbrev pub state_of : List Commit → ℕ → List Session → Machine
@@ -47,3 +50,13 @@ entered core entry = record core {
 -- the core behind an event, as one word
 unfoldable pub core_behind : Core → Event → Core
 core_behind core event = step core event
+
+-- the core behind rows that a session puts into that group of a table, or into a new one behind the others
+abbrev pub placed : Core → ℕ → ℕ → ℕ → List (List Value) → Core
+placed core number table group rows = record (seats_with core number (with_version (appended_part table rows))) {
+  layout = with_placed core.layout table group rows;
+}
+
+-- the rows that an event puts into a group can be counted there
+abbrev pub FitsIn : List (List ℕ) → ℕ → ℕ → List (List Value) → Type 0
+FitsIn layout table group rows = rows_in (groups_of layout table) group + length rows < 2 ^ 64

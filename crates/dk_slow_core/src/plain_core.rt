@@ -1,22 +1,26 @@
 //! The core itself.
-ghost use Rattle.std.specs.Prelude.{◌≡◌, Some, None, option_map, IfOk, OnOk, OnErr};
+ghost use Rattle.std.specs.Prelude.{◌≡◌, ◌+◌, ◌^◌, ◌<◌, ◌≤◌, ℕ, true, Some, None, length, option_map, slice_set, IfOk, OnOk, OnErr};
+ghost use Rattle.dk_types.specs.declared.vector.VectorId.{VectorId};
 ghost use Rattle.dk_core.specs.declared.event.Event.TheVariants as event;
+ghost use Rattle.dk_core.specs.Allows.{is_bound};
 ghost use Rattle.dk_core.specs.Core.{first_core, no_seat, seat_at, next_snapshot};
-ghost use Rattle.dk_core.specs.Findings.{is_full, spent_numbers};
-ghost use Rattle.dk_core.specs.Step.{seat_after_reply};
-ghost use Rattle.dk_slow_core.specs.Moves.{entered, core_behind};
-ghost use Rattle.dk_slow_core.specs.Seats.{seats_with, seats_put};
+ghost use Rattle.dk_core.specs.Findings.{is_full, spent_numbers, conflict};
+ghost use Rattle.dk_core.specs.Layout.{groups_of, rows_in, with_rows};
+ghost use Rattle.dk_core.specs.Step.{seat_after_reply, without_oldest, without_newest};
+ghost use Rattle.dk_slow_core.specs.Moves.{entered, core_behind, placed, FitsIn};
+ghost use Rattle.dk_slow_seats.specs.Seats.{seats_with, seats_put, start_at, with_version};
 
-use crate::layout::{Groups, layout_of};
-use crate::seats::empty_seats;
 use crate::state::State;
-use crate::{findings, seats};
 use dk_core::{Seat, Snapshot};
 use dk_plain::CommitLog;
 use dk_si::Database;
 use dk_si::history::{Asked, Entry};
 use dk_si::limits::SESSIONS;
-use dk_types::{Exhausted, OutOfMemory, Refusal, Reply};
+use dk_slow_seats::conflicts::Scope;
+use dk_slow_seats::layout::{self, Groups, layout_of};
+use dk_slow_seats::seats::{self, empty_seats};
+use dk_slow_seats::{bounds, room};
+use dk_types::{Exhausted, OutOfMemory, Refusal, Reply, Rows, TableNet};
 use std::alloc::Global;
 use std::marker::Model;
 
@@ -118,8 +122,8 @@ impl Core {
             opened: self.opened.as_slice(),
             commits: self.now.commits(),
         };
-        let live = findings::live_count(self.seats.as_slice());
-        findings::is_full(&log, self.now.begun(), live)
+        let live = room::live_count(self.seats.as_slice());
+        room::is_full(&log, self.now.begun(), live)
     }
 
     fn spent_numbers(&self) -> Exhausted
@@ -129,7 +133,7 @@ impl Core {
             opened: self.opened.as_slice(),
             commits: self.now.commits(),
         };
-        findings::spent_numbers(&log, self.now.begun())
+        room::spent_numbers(&log, self.now.begun())
     }
 
     /// The snapshot of a transaction that begins.
@@ -220,5 +224,199 @@ impl Core {
         ensures { self.new ≡ core_behind self.old (event.Finish session) }
     {
         self.end_snapshot(session);
+    }
+
+    fn stamp_oldest(&mut self, session: u32)
+        ensures { self.new ≡ seats_with self.old session (λ seat. record seat {
+          versions = without_oldest seat.versions;
+        }) }
+    {
+        let alloc = *self.entries.allocator();
+        seats::stamp_oldest(alloc, &mut self.seats, session);
+    }
+
+    fn undo_newest(&mut self, session: u32)
+        ensures { self.new ≡ seats_with self.old session (λ seat. record seat {
+          versions = without_newest seat.versions;
+        }) }
+    {
+        let alloc = *self.entries.allocator();
+        seats::undo_newest(alloc, &mut self.seats, session);
+    }
+
+    /// A session's oldest version gets its commit's number.
+    #[tactic(auto, using(crate::proofs::EventLemmas::stamp_behind))]
+    pub fn stamp(&mut self, session: u32)
+        ensures { self.new ≡ core_behind self.old (event.Stamp session) }
+    {
+        self.stamp_oldest(session);
+    }
+
+    /// A session's newest version is undone.
+    #[tactic(auto, using(crate::proofs::EventLemmas::undo_behind))]
+    pub fn undo(&mut self, session: u32)
+        ensures { self.new ≡ core_behind self.old (event.Undo session) }
+    {
+        self.undo_newest(session);
+    }
+
+    /// Versions that every snapshot sees are let go: there are none here.
+    #[tactic(auto, using(crate::proofs::EventLemmas::drop_behind))]
+    pub fn drop_versions(&mut self)
+        ensures { (at : VectorId) (bound : ℕ) → self.new ≡ core_behind self.old (event.Drop at bound) }
+    {}
+
+    /// A group is given its page: there are none here.
+    #[tactic(auto, using(crate::proofs::EventLemmas::settle_behind))]
+    pub fn settle(&mut self)
+        ensures { (table group root : ℕ) → self.new ≡ core_behind self.old (event.Settle table group root) }
+    {}
+
+    /// A session makes a version.
+    fn make_version(&mut self, session: u32, part: TableNet) -> Result<(), OutOfMemory>
+        ensures ok { OnOk result (self.new ≡ seats_with self.old session (with_version part)) }
+        ensures err { OnErr result (self.new ≡ self.old) }
+    {
+        seats::make_version(&mut self.seats, session, part)
+    }
+
+    fn groups_behind(&self, table: u32, group: u64, more: u64) -> Result<Groups, OutOfMemory>
+        requires { rows_in (groups_of self.now.layout table) group + more < 2 ^ 64 }
+        ensures { IfOk result (λ groups. groups ≡ with_rows group more (groups_of self.entry.now.layout table)) }
+    {
+        let alloc = *self.entries.allocator();
+        layout::groups_behind(alloc, self.layout.as_slice(), table, group, more)
+    }
+
+    fn put_groups(&mut self, table: u32, groups: Groups)
+        ensures { self.new ≡ record self.old { layout = slice_set self.old.layout table groups } }
+    {
+        layout::put_groups(&mut self.layout, table, groups);
+    }
+
+    /// Own rows go into a group, or into a new one behind the others.
+    fn place(&mut self, session: u32, table: u32, group: u64, rows: Rows) -> Result<(), OutOfMemory>
+        requires { FitsIn self.old.layout table group rows }
+        ensures ok { OnOk result (self.new ≡ placed self.old session table group rows) }
+        ensures err { OnErr result (self.new ≡ self.old) }
+    {
+        let alloc = *self.entries.allocator();
+        let groups = self.groups_behind(table, group, rows.len() as u64)?;
+        self.make_version(session, seats::appended_part(alloc, table, rows))?;
+        self.put_groups(table, groups);
+        Ok(())
+    }
+
+    /// Own rows go into a group that has room, or into a new one. The id of the first is told by the group.
+    #[tactic(auto, using(crate::proofs::EventLemmas::append_behind))]
+    pub fn append(
+        &mut self,
+        session: u32,
+        table: u32,
+        group: u64,
+        rows: Rows,
+    ) -> Result<(), OutOfMemory>
+        requires { FitsIn self.old.layout table group rows }
+        ensures ok { OnOk result ((first : ℕ) → self.new ≡ core_behind self.old (event.Append session
+            table group first rows)) }
+        ensures err { OnErr result (self.new ≡ self.old) }
+    {
+        self.place(session, table, group, rows)
+    }
+
+    /// A full group of own rows becomes a group of the table.
+    #[tactic(auto, using(crate::proofs::EventLemmas::adopt_behind))]
+    pub fn adopt(
+        &mut self,
+        session: u32,
+        table: u32,
+        group: u64,
+        rows: Rows,
+    ) -> Result<(), OutOfMemory>
+        requires { FitsIn self.old.layout table group rows }
+        ensures ok { OnOk result ((first : ℕ) → self.new ≡ core_behind self.old (event.Adopt session
+            table group first rows)) }
+        ensures err { OnErr result (self.new ≡ self.old) }
+    {
+        self.place(session, table, group, rows)
+    }
+
+    fn conflict(
+        &self,
+        session: u32,
+        start: u64,
+        part: &TableNet,
+    ) -> Result<Option<Refusal>, OutOfMemory>
+        ensures { IfOk result (λ found. found ≡ conflict self.entry.now session start part.now) }
+    {
+        let alloc = *self.entries.allocator();
+        let scope = Scope {
+            number: session,
+            seats: self.seats.as_slice(),
+            commits: self.now.commits(),
+        };
+        scope.conflict(alloc, start, part)
+    }
+
+    fn start_of(&self, session: u32) -> Option<u64>
+        ensures { result ≡ start_at self.entry.now.seats session }
+    {
+        seats::start_of(self.seats.as_slice(), session)
+    }
+
+    /// Rows of one vector are updated or deleted, or a conflict is found.
+    #[tactic(auto, using(crate::proofs::ChangeLemmas::no_change_behind, crate::proofs::ChangeLemmas::conflict_behind, crate::proofs::ChangeLemmas::change_behind))]
+    pub fn change(&mut self, session: u32, part: TableNet) -> Result<(), OutOfMemory>
+        ensures ok { OnOk result ((at : VectorId) → self.new ≡ core_behind self.old (event.Change session
+            at part)) }
+        ensures err { OnErr result (self.new ≡ self.old) }
+    {
+        let Some(start) = self.start_of(session) else {
+            return Ok(());
+        };
+        match self.conflict(session, start, &part)? {
+            Some(refusal) => {
+                self.set_found(session, Some(refusal));
+                Ok(())
+            }
+            None => self.make_version(session, part),
+        }
+    }
+
+    /// The machine's entries so far.
+    pub fn entries(&self) -> &[Entry]
+        ensures { result.now ≡ self.entry.now.entries }
+    {
+        self.entries.as_slice()
+    }
+
+    /// What each session has beside what the machine knows of it.
+    pub fn seats(&self) -> &[Seat]
+        ensures { result.now ≡ self.entry.now.seats }
+    {
+        self.seats.as_slice()
+    }
+
+    /// The number of the last commit.
+    pub fn commit_count(&self) -> u64
+        ensures { result ≡ length self.entry.now.now.commits }
+    {
+        self.now.commits().len() as u64
+    }
+
+    /// How many rows the groups of a table have.
+    pub fn groups(&self, table: u32) -> &[u64]
+        ensures { result.now ≡ groups_of self.entry.now.layout table }
+    {
+        layout::groups_of(self.layout.as_slice(), table)
+    }
+
+    /// The greatest number of a commit that every snapshot sees.
+    #[tactic(auto, using(crate::proofs::BoundLemmas::bound_holds, crate::proofs::BoundLemmas::bound_greatest))]
+    pub fn bound(&self) -> u64
+        ensures holds { is_bound self.entry.now result ≡ true }
+        ensures greatest { (other : ℕ) → is_bound self.entry.now other ≡ true → other ≤ result }
+    {
+        bounds::bound(self.commit_count(), self.seats.as_slice())
     }
 }

@@ -9,6 +9,7 @@ use dk_si::database::Table;
 use dk_si::history::{Asked, Entry};
 use dk_si::limits::MAX_TRANSACTIONS;
 use dk_si::machine::{Machine, OpenTransaction, Session, Transaction, Transition};
+use dk_slow_seats::seats::put;
 use dk_states::call::write_set_in_flight;
 use dk_states::machine::{after_aborted, last_transaction, session_behind, transition};
 use dk_types::{Commit, Net, OutOfMemory, Reply, TryCopy};
@@ -56,16 +57,6 @@ pub fn session_at(sessions: &[Session], number: u32) -> Option<&Session>
         return None;
     }
     sessions.get(number as usize - 1)
-}
-
-/// Puts an item in the place of that number, counted from 1, if there is such a place.
-pub fn put<T: Drop>(items: &mut Vec<T>, number: u32, item: T)
-    ensures { items.new.items ≡ slice_set items.old.items (number - 1) item }
-{
-    let place = (number as usize).saturating_sub(1);
-    if place < items.len() {
-        items[place] = item;
-    }
 }
 
 /// Adds a commit, if there is one, in room that was reserved.

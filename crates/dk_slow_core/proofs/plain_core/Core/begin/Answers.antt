@@ -1,7 +1,7 @@
 -- Where none can begin, the numbers that are spent are noted.
 use Rattle.std.proofs.Common.{Some, ap, ◌∙◌, sym}
 use Rattle.dk_types.specs.declared.reply.Refusal.TheVariants as refusal
-use Rattle.dk_slow_core.specs.Seats.{seats_with}
+use Rattle.dk_slow_seats.specs.Seats.{seats_with}
 use Rattle.dk_slow_core.proofs.EventLemmas.{full_behind}
 use Rattle.dk_slow_core.proofs.plain_core.Core.begin.Goals as goal
 

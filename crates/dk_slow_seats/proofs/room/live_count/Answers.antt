@@ -3,7 +3,7 @@ use Rattle.std.proofs.Common.{rules, tests}
 use Rattle.std.proofs.lemmas.Iterator.{YieldsList-from_slice}
 use Rattle.std.proofs.lemmas.Iterator.Consumers.{YieldsList-from_filter, count_from_yields_List}
 use Rattle.dk_core.specs.Findings.{has_live}
-use Rattle.dk_slow_core.proofs.findings.live_count.Goals as goal
+use Rattle.dk_slow_seats.proofs.room.live_count.Goals as goal
 
 pub returns : goal.returns
 returns c =
