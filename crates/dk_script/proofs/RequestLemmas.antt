@@ -11,12 +11,15 @@ use Rattle.std.proofs.lemmas.Bool.Decides.{Decides-eqb}
 use Rattle.std.proofs.lemmas.Option.{cond_some, option_and_then_some, same_Some}
 use Rattle.std.proofs.lemmas.Slice.Eq.{starts_is}
 use Rattle.std.proofs.lemmas.Str.{IsUtf8-from_is_utf8, is_utf8-from_IsUtf8}
-use Rattle.dk_script.specs.Readers.{◌>>=◌}
-use Rattle.dk_script.specs.Words.{is_digit}
+use Rattle.dk_script.specs.Requests.{◌>>=◌, is_digit}
 use Rattle.dk_script.specs.Requests.{session_behind, session_at, text_in, utf8_text, request_of}
-use Rattle.dk_script.specs.GrammarTokens.{begins}
 use Rattle.dk_script.specs.GrammarLines.{IsRequest}
 use Rattle.dk_script.specs.declared.line.TheConstants.{MAX_SESSION}
+
+-- the first byte passes the test
+abbrev begins : (ℕ → Bool) → List ℕ → Bool
+begins test [] = false
+begins test (b ∷ bytes) = test b
 
 -- THE NUMBER
 

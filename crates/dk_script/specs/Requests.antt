@@ -1,11 +1,16 @@
 -- What a line of a script asks: a session's number from 1 to the greatest without leading zeros, `: `, a statement's
 -- text in UTF-8, and `;` as the last byte.
-use Rattle.std.specs.Prelude.{ℕ, ◌+◌, ◌-◌, ◌*◌, ◌&&◌, List, [], ◌∷◌, length, take, drop, ◌==◌, nat_eq, nat_le, slice_index, codes, Option, Some, None, if◌then◌else◌}
+use Rattle.std.specs.Prelude.{ℕ, ◌+◌, ◌-◌, ◌*◌, Bool, ◌&&◌, List, [], ◌∷◌, length, take, drop, ◌==◌, nat_eq, nat_le, slice_index, codes, Option, Some, None, option_and_then, if◌then◌else◌}
 use Rattle.std.specs.List.{starts_with}
 use Rattle.std.specs.Str.{is_utf8}
-use Rattle.dk_script.specs.Readers.{◌>>=◌}
-use Rattle.dk_script.specs.Words.{is_digit}
 use Rattle.dk_script.specs.declared.line.TheConstants.{MAX_SESSION}
+
+infixl 10 ◌>>=◌
+abbrev pub ◌>>=◌ : {A B : Type 0} → Option A → (A → Option B) → Option B
+o >>= f = option_and_then f o
+
+abbrev pub is_digit : ℕ → Bool
+is_digit b = nat_le 48 b && nat_le b 57
 
 -- the number of one digit, or of two and at most the greatest
 abbrev pub session_behind : ℕ → List ℕ → Option (ℕ × List ℕ)

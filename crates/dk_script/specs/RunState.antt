@@ -1,8 +1,7 @@
 -- What a run keeps between its lines.
-use Rattle.std.specs.Prelude.{◌≡◌, ◌<◌, ◌≤◌, ℕ, true, false, List, [], length, Option}
+use Rattle.std.specs.Prelude.{◌≡◌, ◌≤◌, ℕ, true, List, [], length, Option}
 use Rattle.dk_io.specs.NextLine.{IsReadOut}
 use Rattle.dk_io.specs.ReaderState.{ReaderState, fresh_reader}
-use Rattle.dk_script.specs.Database.{Database}
 use Rattle.dk_script.specs.declared.line.TheConstants.{MAX_LINE}
 use Rattle.dk_script.specs.declared.run.TheConstants.{MAX_SCRIPT}
 
@@ -10,18 +9,15 @@ use Rattle.dk_script.specs.declared.run.TheConstants.{MAX_SCRIPT}
 abbrev pub start : ReaderState
 start = fresh_reader MAX_LINE MAX_SCRIPT
 
--- the limits are the script's and kept, no commit but of a line was made, the page is empty, and the end of the input
--- is the source's
-pub record IsReady (reading : ReaderState) (db : Database) (page : List ℕ) (left : Option (List ℕ)) : Type 0 where
+-- the limits are the script's and kept, the page is empty, and the end of the input is the source's
+pub record IsReady (reading : ReaderState) (page : List ℕ) (left : Option (List ℕ)) : Type 0 where
   pub limit : reading.limit ≡ MAX_LINE
   pub total : reading.total ≡ MAX_SCRIPT
   pub taken : reading.taken ≤ reading.total
-  pub commits : db.commits ≤ reading.number
   pub empty : page ≡ []
   pub ended : reading.ended ≡ true → IsReadOut reading left
 
 -- a line was read, and may be answered
-pub record IsToAnswer (reading : ReaderState) (db : Database) (page : List ℕ) : Type 0 where
+pub record IsToAnswer (reading : ReaderState) (page : List ℕ) : Type 0 where
   pub short : length reading.line ≤ MAX_LINE
-  pub commits : db.commits < reading.number
   pub empty : page ≡ []

@@ -1,19 +1,16 @@
 //! Replies on their way to a sink: a page of some tens of kilobytes at a time.
-ghost use Rattle.std.specs.Prelude.{◌≡◌, ◌++◌, [], length, decimal, OnOk, OnErr};
+ghost use Rattle.std.specs.Prelude.{◌≡◌, ◌++◌, [], decimal, unwrap_or, OnOk, OnErr};
 ghost use Rattle.dk_fault.specs.Causes.{HasCause};
-ghost use Rattle.dk_si.specs.Database.{present};
-ghost use Rattle.dk_script.specs.Meaning.{reply_of};
-ghost use Rattle.dk_script.specs.Database.{rows_at};
 ghost use Rattle.dk_script.specs.Texts.{row_text, rows_text, session_text};
 ghost use Rattle.dk_script.specs.LastLine.{bad_line_text, last_line};
-ghost use Rattle.dk_script.specs.AnswerTexts.{head_text, body_text};
+ghost use Rattle.dk_script.specs.ReplyTexts.{head_text, words_text, body_text};
 ghost use Rattle.dk_script.specs.Paging.{MayStop, WritesText};
 ghost use Rattle.dk_script.specs.Sinks.{Sends, SendsFront};
 
-use crate::store::{Answer, Store};
 use crate::text::{put, put_counted, put_number, put_refusal, put_row};
 use dk_io::{Failed, Sink, write_all};
-use dk_types::{OutOfMemory, RowRef, Rows, Status};
+use dk_plain_engine::Answer;
+use dk_types::{OutOfMemory, Reply, RowRef, Rows, Status};
 use itoa::Buffer;
 
 /// A page goes out once it has that many bytes.
@@ -69,52 +66,50 @@ fn write_rows<K: Sink>(sink: &mut K, page: &mut Vec<u8>, rows: &Rows) -> Result<
     Ok(())
 }
 
-/// How many rows there are in the table at a place.
-fn count_rows(store: &Store, place: usize) -> u64
-    ensures { result ≡ length (present (rows_at place store.now.tables)) }
+/// The name that an answer tells, empty where it has none.
+fn name_of(answer: &Answer) -> &[u8]
+    ensures { result.now ≡ unwrap_or answer.now.name [] }
 {
-    match store.rows(place) {
-        Some(rows) => rows.len() as u64,
-        None => 0,
+    match &answer.name {
+        Some(name) => name.as_slice(),
+        None => b"",
+    }
+}
+
+/// Puts the words of a reply on the page, where that is the name of the table that it is about.
+fn put_words(page: &mut Vec<u8>, name: &[u8], reply: &Reply) -> Result<(), OutOfMemory>
+    ensures ok { OnOk result (page.new.items ≡ page.old.items ++ words_text name.now reply.now) }
+{
+    match reply {
+        Reply::Created { .. } => put(page, b"created"),
+        Reply::Changed { count, .. } => put_counted(page, b"changed ", *count),
+        Reply::Rows { rows } => put_counted(page, b"rows ", rows.len() as u64),
+        Reply::Begun { start } => put_counted(page, b"begun ", *start),
+        Reply::Committed { receipt } => put_counted(page, b"committed ", receipt.number),
+        Reply::Ended => put(page, b"ended"),
+        Reply::Checkpointed { iteration } => put_counted(page, b"checkpointed ", *iteration),
+        Reply::Refused(refusal) => put_refusal(page, name, *refusal),
     }
 }
 
 /// Puts a reply without rows on the page, and of one with rows the line that counts them.
-pub fn put_head(
-    page: &mut Vec<u8>,
-    store: &Store,
-    session: u32,
-    answer: Answer,
-) -> Result<(), OutOfMemory>
-    ensures ok { OnOk result (
-        page.new.items ≡ page.old.items ++ head_text store.now session answer) }
+pub fn put_head(page: &mut Vec<u8>, session: u32, answer: &Answer) -> Result<(), OutOfMemory>
+    ensures ok { OnOk result (page.new.items
+        ≡ page.old.items ++ head_text session (unwrap_or answer.now.name []) answer.now.reply) }
 {
     put_number(page, session)?;
     put(page, b" ")?;
-    match answer {
-        Answer::Created { .. } => put(page, b"created")?,
-        Answer::Changed { count, .. } => put_counted(page, b"changed ", count)?,
-        Answer::Rows { place } => put_counted(page, b"rows ", count_rows(store, place))?,
-        Answer::Refused(refusal) => put_refusal(page, b"", refusal)?,
-    }
+    put_words(page, name_of(answer), &answer.reply)?;
     put(page, b"\n")
 }
 
-/// Writes the rows of an answer, if it has rows.
-fn write_body<K: Sink>(
-    sink: &mut K,
-    page: &mut Vec<u8>,
-    store: &Store,
-    answer: Answer,
-) -> Result<(), Status>
+/// Writes the rows of a reply, if it has rows.
+fn write_body<K: Sink>(sink: &mut K, page: &mut Vec<u8>, reply: &Reply) -> Result<(), Status>
     ensures { WritesText K.Sink sink.old sink.new
-        page.new.items (page.old.items ++ body_text store.now answer) result }
+        page.new.items (page.old.items ++ body_text reply.now) result }
 {
-    match answer {
-        Answer::Rows { place } => match store.rows(place) {
-            Some(rows) => write_rows(sink, page, rows),
-            None => Ok(()),
-        },
+    match reply {
+        Reply::Rows { rows } => write_rows(sink, page, rows),
         _ => Ok(()),
     }
 }
@@ -124,21 +119,20 @@ fn write_body<K: Sink>(
 pub fn write_reply<K: Sink>(
     sink: &mut K,
     page: &mut Vec<u8>,
-    store: &Store,
     session: u32,
-    answer: Answer,
+    answer: &Answer,
 ) -> Result<(), Status>
     requires { page.old.items ≡ [] }
-    ensures ok { OnOk result (
-        Sends K.Sink sink.old sink.new (session_text session [] (reply_of store.now answer))) }
+    ensures ok { OnOk result (Sends K.Sink sink.old sink.new
+        (session_text session (unwrap_or answer.now.name []) answer.now.reply)) }
     ensures empty { OnOk result (page.new.items ≡ []) }
-    ensures err { OnErr result (
-        SendsFront K.Sink sink.old sink.new (session_text session [] (reply_of store.now answer))) }
+    ensures err { OnErr result (SendsFront K.Sink sink.old sink.new
+        (session_text session (unwrap_or answer.now.name []) answer.now.reply)) }
     ensures stops { MayStop K.Sink sink.old sink.new result }
 {
-    match put_head(page, store, session, answer) {
+    match put_head(page, session, answer) {
         Ok(()) => {
-            write_body(sink, page, store, answer)?;
+            write_body(sink, page, &answer.reply)?;
             send(sink, page)
         }
         Err(_) => Err(Status::OutOfMemory),

@@ -1,21 +1,25 @@
-//! What a small script prints, written plainly: all lines first, then each in turn. It is slow, takes memory for the
-//! whole output, and is there to compare a run with.
-ghost use Rattle.std.specs.Prelude.{◌≡◌, ◌+◌, ◌^◌, ◌<◌, ◌≤◌, ◌++◌, true, false, Ok, Some, IfOk, OnOk};
+//! What replies print, written plainly, to compare a run with: it takes memory for the whole output.
+ghost use Rattle.std.specs.Prelude.{◌≡◌, ◌++◌, unwrap_or, [], IfOk, OnOk};
 ghost use Rattle.std.specs.Str.Lines.{strip_carriage_return};
 ghost use Rattle.dk_io.specs.Lines.{line_content, line_contents};
-ghost use Rattle.dk_script.specs.AnswerTexts.{body_text};
 ghost use Rattle.dk_script.specs.GrammarLines.{AreLines};
-ghost use Rattle.dk_script.specs.LastLine.{bad_line_text, end_text};
-ghost use Rattle.dk_script.specs.Script.{request_in, is_good, request_text, request_after, first_bad_line, script_output};
-ghost use Rattle.dk_script.specs.Texts.{rows_text};
+ghost use Rattle.dk_script.specs.LastLine.{end_text};
+ghost use Rattle.dk_script.specs.PlainTexts.{answers_text};
+ghost use Rattle.dk_script.specs.ReplyTexts.{body_text};
+ghost use Rattle.dk_script.specs.Texts.{rows_text, session_text};
 
-use crate::line::{MAX_LINE, request_of};
 use crate::output::put_head;
-use crate::run::reply;
-use crate::store::{Answer, Store};
 use crate::text::{put, put_counted, put_row};
-use dk_types::{Bytes, List, OutOfMemory, Rows};
+use dk_plain_engine::Answer;
+use dk_types::{Bytes, List, OutOfMemory, Reply, Rows};
 use std::alloc::Global;
+
+/// An answer, and the session that it is for.
+#[derive(Debug, Drop)]
+pub struct SessionAnswer {
+    pub session: u32,
+    pub answer: Answer,
+}
 
 /// A line without the carriage return at its end, none where it is passed over.
 fn line_content(line: Vec<u8>) -> Option<Bytes>
@@ -73,93 +77,52 @@ fn put_rows(out: &mut Vec<u8>, rows: &Rows) -> Result<(), OutOfMemory>
     Ok(())
 }
 
-/// Puts the rows of an answer, if it has rows.
-fn put_body(out: &mut Vec<u8>, store: &Store, answer: Answer) -> Result<(), OutOfMemory>
-    ensures { OnOk result (out.new.items ≡ out.old.items ++ body_text store.now answer) }
+/// Puts the rows of a reply, if it has rows.
+fn put_body(out: &mut Vec<u8>, reply: &Reply) -> Result<(), OutOfMemory>
+    ensures { OnOk result (out.new.items ≡ out.old.items ++ body_text reply.now) }
 {
-    match answer {
-        Answer::Rows { place } => match store.rows(place) {
-            Some(rows) => put_rows(out, rows),
-            None => Ok(()),
-        },
+    match reply {
+        Reply::Rows { rows } => put_rows(out, rows),
         _ => Ok(()),
     }
 }
 
-/// Answers a line: false where it is outside the grammar.
-fn answer_line(
-    alloc: Global,
-    store: &mut Store,
-    out: &mut Vec<u8>,
-    line: &[u8],
-) -> Result<bool, OutOfMemory>
-    requires { store.old.commits + 1 < 2 ^ 64 }
-    ensures good { result ≡ Ok true → is_good (Some line.now) ≡ true }
-    ensures text { result ≡ Ok true
-        → out.new.items ≡ out.old.items ++ request_text store.old (request_in (Some line.now)) }
-    ensures state { result ≡ Ok true
-        → store.new ≡ request_after store.old (request_in (Some line.now)) }
-    ensures bad { result ≡ Ok false → is_good (Some line.now) ≡ false }
-    ensures same { result ≡ Ok false → out.new.items ≡ out.old.items }
-    ensures commits { OnOk result (store.new.commits ≤ store.old.commits + 1) }
+/// Puts a whole reply.
+#[tactic(auto, using(crate::proofs::ReplyLemmas::session_put))]
+fn put_answer(out: &mut Vec<u8>, session: u32, answer: &Answer) -> Result<(), OutOfMemory>
+    ensures { OnOk result (out.new.items ≡ out.old.items
+        ++ session_text session (unwrap_or answer.now.name []) answer.now.reply) }
 {
-    if line.len() > MAX_LINE {
-        return Ok(false);
-    }
-    let Some((session, text)) = request_of(line) else {
-        return Ok(false);
-    };
-    let answer = reply(alloc, store, session, text)?;
-    put_head(out, store, session, answer)?;
-    put_body(out, store, answer)?;
-    Ok(true)
+    put_head(out, session, answer)?;
+    put_body(out, &answer.reply)
 }
 
-/// Answers a line, if it is not passed over: false where it is outside the grammar.
-fn answer_if_kept(
-    alloc: Global,
-    store: &mut Store,
-    out: &mut Vec<u8>,
-    line: &Option<Bytes>,
-) -> Result<bool, OutOfMemory>
-    requires { store.old.commits + 1 < 2 ^ 64 }
-    ensures good { result ≡ Ok true → is_good line.now ≡ true }
-    ensures text { result ≡ Ok true
-        → out.new.items ≡ out.old.items ++ request_text store.old (request_in line.now) }
-    ensures state { result ≡ Ok true → store.new ≡ request_after store.old (request_in line.now) }
-    ensures bad { result ≡ Ok false → is_good line.now ≡ false }
-    ensures same { result ≡ Ok false → out.new.items ≡ out.old.items }
-    ensures commits { OnOk result (store.new.commits ≤ store.old.commits + 1) }
+/// Puts the last line of a script whose first line outside the grammar has that number, if it has one.
+fn put_end(out: &mut Vec<u8>, bad: Option<u64>) -> Result<(), OutOfMemory>
+    ensures { OnOk result (out.new.items ≡ out.old.items ++ end_text bad) }
 {
-    match line {
-        Some(line) => answer_line(alloc, store, out, line.as_slice()),
-        None => Ok(true),
-    }
-}
-
-/// Puts the last line of a script that has a bad line.
-fn put_bad_line(out: &mut Vec<u8>, line: u64) -> Result<(), OutOfMemory>
-    ensures { OnOk result (out.new.items ≡ out.old.items ++ bad_line_text line) }
-{
-    put_counted(out, b"bad line ", line)?;
-    put(out, b"\n")
-}
-
-/// What a script prints, up to its end or its first line that is outside the grammar, which the last line names.
-pub fn plain_output(alloc: Global, script: &[u8]) -> Result<Vec<u8>, OutOfMemory>
-    ensures { IfOk result (λ out.
-        out.items ≡ script_output script.now ++ end_text (first_bad_line script.now)) }
-{
-    let lines = lines_of(alloc, script)?;
-    let mut store = Store::new(alloc);
-    let mut out = Vec::new(alloc);
-    let mut number = 0;
-    for line in lines.as_slice() {
-        number += 1;
-        if !answer_if_kept(alloc, &mut store, &mut out, line)? {
-            put_bad_line(&mut out, number)?;
-            return Ok(out);
+    match bad {
+        Some(line) => {
+            put_counted(out, b"bad line ", line)?;
+            put(out, b"\n")
         }
+        None => Ok(()),
     }
+}
+
+/// What answers print, one after another, and behind them the last line of a script whose first line outside the
+/// grammar has that number.
+pub fn plain_output(
+    alloc: Global,
+    answers: &[SessionAnswer],
+    bad: Option<u64>,
+) -> Result<Vec<u8>, OutOfMemory>
+    ensures { IfOk result (λ out. out.items ≡ answers_text answers.now ++ end_text bad) }
+{
+    let mut out = Vec::new(alloc);
+    'answers: for told in answers {
+        put_answer(&mut out, told.session, &told.answer)?;
+    }
+    put_end(&mut out, bad)?;
     Ok(out)
 }

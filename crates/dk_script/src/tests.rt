@@ -1,10 +1,14 @@
 //! Scripts, with the output that the language gives them, and runs that faults end.
-use crate::plain::plain_output;
+use crate::plain::{SessionAnswer, plain_output};
 use crate::serve::serve;
+use crate::text::{put, put_number};
+use crate::trouble::{Trouble, status_for, trouble_behind};
 use dk_device::MemoryDisk;
 use dk_io::{MemorySink, MemorySource, NoPause};
-use dk_types::{OutOfMemory, Status};
+use dk_plain_engine::Answer;
+use dk_types::{Exhausted, Holder, List, OutOfMemory, Receipt, Refusal, Reply, Status};
 use std::alloc::Global;
+use std::process::Abort;
 use std::test::Fail;
 
 const FIRST: &[u8] =
@@ -75,65 +79,227 @@ fn run_long(alloc: Global, script: Vec<u8>) -> Result<Printed, OutOfMemory> {
     )
 }
 
+/// What each script prints, in pieces of three bytes, and the status that its run ends with.
+#[derive(Drop)]
+struct Case<'a> {
+    script: &'a [u8],
+    output: &'a [u8],
+    status: Status,
+}
+
+/// A script that is answered to its end.
+fn done<'a>(script: &'a [u8], output: &'a [u8]) -> Case<'a> {
+    Case {
+        script,
+        output,
+        status: Status::Done,
+    }
+}
+
+/// A script that has a bad line.
+fn bad<'a>(script: &'a [u8], output: &'a [u8], line: u64) -> Case<'a> {
+    Case {
+        script,
+        output,
+        status: Status::BadLine { line },
+    }
+}
+
+fn are_printed(rt: &impl Abort, alloc: Global, cases: &[Case<'_>]) -> Result<(), Fail> {
+    for case in cases {
+        let printed = run(alloc, case.script)?;
+        assert_eq!(rt; printed.output.as_slice(), case.output);
+        assert_eq!(rt; printed.status, case.status);
+    }
+    Ok(())
+}
+
 #[test]
-fn scripts_are_answered(rt: HostRuntime) -> Result<(), Fail> {
-    let bad = Status::BadLine { line: 1 };
-    let cases: [(&[u8], &[u8], Status); 19] = [
-        (
-            FIRST,
-            b"1 created\n1 changed 2\n1 rows 2\n1\n2\n",
-            Status::Done,
-        ),
-        (b"", b"", Status::Done),
-        (b"1: BEGIN;\n", b"1 unsupported\n", Status::Done),
-        (b"1: SELECT * FROM t;\n", b"1 unsupported\n", Status::Done),
-        (b"1 SELECT * FROM t;\n", b"bad line 1\n", bad),
-        (b"32: SELECT * FROM t;", b"32 unsupported\n", Status::Done),
-        (b"0: BEGIN;\n", b"bad line 1\n", bad),
-        (b"33: BEGIN;\n", b"bad line 1\n", bad),
-        (b"01: BEGIN;\n", b"bad line 1\n", bad),
-        (b"1: BEGIN\n", b"bad line 1\n", bad),
-        (b"1: BEGIN; \n", b"bad line 1\n", bad),
-        (b"1: \xff;\n", b"bad line 1\n", bad),
-        (b" \n", b"bad line 1\n", bad),
-        (
+fn lines_are_read(rt: HostRuntime) -> Result<(), Fail> {
+    let cases = [
+        done(FIRST, b"1 created\n1 changed 2\n1 rows 2\n1\n2\n"),
+        done(b"", b""),
+        bad(b"1 SELECT * FROM t;\n", b"bad line 1\n", 1),
+        done(b"32: SELECT * FROM t;", b"32 unsupported\n"),
+        bad(b"0: BEGIN;\n", b"bad line 1\n", 1),
+        bad(b"33: BEGIN;\n", b"bad line 1\n", 1),
+        bad(b"01: BEGIN;\n", b"bad line 1\n", 1),
+        bad(b"1: BEGIN\n", b"bad line 1\n", 1),
+        bad(b"1: BEGIN; \n", b"bad line 1\n", 1),
+        bad(b"1: \xff;\n", b"bad line 1\n", 1),
+        bad(b" \n", b"bad line 1\n", 1),
+        bad(
             b"\r\n-- \xff\n\n1: x;\r\n2:;\n1: x;\n",
             b"1 unsupported\nbad line 5\n",
-            Status::BadLine { line: 5 },
+            5,
         ),
-        (
+        bad(
             b"1: create\ttable T_1(A bigint , b BIGINT);\n1:insert;\n",
             b"1 created\nbad line 2\n",
-            Status::BadLine { line: 2 },
+            2,
         ),
-        (
+        done(b"1: SELECT * FROM t; --;\n", b"1 unsupported\n"),
+        done(b"1: COPY t FROM STDIN;\n", b"1 unsupported\n"),
+    ];
+    are_printed(&rt, rt.alloc(), &cases)
+}
+
+#[test]
+fn statements_are_answered(rt: HostRuntime) -> Result<(), Fail> {
+    let cases = [
+        done(
             b"1: CREATE TABLE t (a BIGINT, b BIGINT);\n1: INSERT INTO T VALUES(-9223372036854775808,- 1), (9223372036854775807,007);\n1: SELECT*FROM t ;",
             b"1 created\n1 changed 2\n1 rows 2\n-9223372036854775808,-1\n9223372036854775807,7\n",
-            Status::Done,
         ),
-        (
+        done(
             b"1: CREATE TABLE t (a BIGINT);\n1: CREATE TABLE t (b BIGINT);\n1: CREATE TABLE u (a BIGINT, a BIGINT);\n1: CREATE TABLE sum (a BIGINT);\n",
             b"1 created\n1 unsupported\n1 unsupported\n1 unsupported\n",
-            Status::Done,
         ),
-        (
-            b"1: CREATE TABLE t (a BIGINT);\n1: INSERT INTO t VALUES (1,2);\n1: INSERT INTO t VALUES (9223372036854775808);\n1: INSERT INTO t VALUES (1),(-9223372036854775809);\n1: INSERT INTO x VALUES (1);\n1: SELECT * FROM t;\n",
-            b"1 created\n1 unsupported\n1 unsupported\n1 unsupported\n1 unsupported\n1 rows 0\n",
-            Status::Done,
+        done(
+            b"1: CREATE TABLE t (a BIGINT);\n1: INSERT INTO t VALUES (1,2);\n1: INSERT INTO x VALUES (1);\n1: SELECT * FROM t;\n",
+            b"1 created\n1 unsupported\n1 unsupported\n1 rows 0\n",
         ),
-        (
-            b"1: SELECT * FROM t; --;\n",
-            b"1 unsupported\n",
-            Status::Done,
+        done(
+            b"1: CREATE TABLE t (a BIGINT);\n1: INSERT INTO t VALUES (1),(2);\n1: UPDATE t SET a = 9;\n1: SELECT * FROM t;\n1: DELETE FROM t;\n1: SELECT * FROM t;\n1: CHECKPOINT;\n1: CHECKPOINT;\n",
+            b"1 created\n1 changed 2\n1 changed 2\n1 rows 2\n9\n9\n1 changed 2\n1 rows 0\n1 checkpointed 2\n1 checkpointed 3\n",
         ),
     ];
-    for (script, output, status) in &cases {
-        let printed = run(rt.alloc(), script)?;
-        assert_eq!(rt; printed.output.as_slice(), *output);
-        assert_eq!(rt; printed.status, *status);
-        let plain = plain_output(rt.alloc(), script)?;
-        assert_eq!(rt; plain.as_slice(), *output);
+    are_printed(&rt, rt.alloc(), &cases)
+}
+
+#[test]
+fn sessions_are_answered(rt: HostRuntime) -> Result<(), Fail> {
+    let cases = [
+        // Two sessions: one sees its snapshot, and is refused the row that the other has changed.
+        done(
+            b"1: CREATE TABLE t (a BIGINT);\n1: INSERT INTO t VALUES (1),(2);\n1: BEGIN;\n2: BEGIN;\n2: UPDATE t SET a = 9;\n1: SELECT * FROM t;\n2: COMMIT;\n1: UPDATE t SET a = 5;\n1: SELECT * FROM t;\n1: ROLLBACK;\n1: COMMIT;\n",
+            b"1 created\n1 changed 2\n1 begun 2\n2 begun 2\n2 changed 2\n1 rows 2\n1\n2\n2 committed 3\n1 conflict t 0 commit 3\n1 aborted\n1 ended\n1 no transaction\n",
+        ),
+        // A row that an open transaction has changed.
+        done(
+            b"1: CREATE TABLE t (a BIGINT);\n1: INSERT INTO t VALUES (1);\n1: BEGIN;\n2: BEGIN;\n2: UPDATE t SET a = 9;\n1: UPDATE t SET a = 5;\n",
+            b"1 created\n1 changed 1\n1 begun 2\n2 begun 2\n2 changed 1\n1 conflict t 0 transaction 3\n",
+        ),
+        // Each statement in a transaction that is open, in one that is aborted, and outside one.
+        done(
+            b"1: BEGIN;\n1: BEGIN;\n1: CREATE TABLE t (a BIGINT);\n1: CHECKPOINT;\n1: COMMIT;\n1: COMMIT;\n1: ROLLBACK;\n",
+            b"1 begun 0\n1 in transaction\n1 in transaction\n1 in transaction\n1 ended\n1 no transaction\n1 no transaction\n",
+        ),
+        done(
+            b"1: CREATE TABLE t (a BIGINT);\n1: INSERT INTO t VALUES (1);\n1: BEGIN;\n2: DELETE FROM t;\n1: DELETE FROM t;\n1: BEGIN;\n1: INSERT INTO t VALUES (2);\n1: CHECKPOINT;\n1: COMMIT;\n1: ROLLBACK;\n",
+            b"1 created\n1 changed 1\n1 begun 2\n2 changed 1\n1 conflict t 0 commit 3\n1 aborted\n1 aborted\n1 aborted\n1 aborted\n1 ended\n",
+        ),
+        // Rows of an open transaction, which the end of the script drops.
+        done(
+            b"1: CREATE TABLE t (a BIGINT);\n1: BEGIN;\n1: INSERT INTO t VALUES (1);\n1: SELECT * FROM t;\n2: SELECT * FROM t;\n",
+            b"1 created\n1 begun 1\n1 changed 1\n1 rows 1\n1\n2 rows 0\n",
+        ),
+    ];
+    are_printed(&rt, rt.alloc(), &cases)
+}
+
+/// Puts one line for each of the sessions, `SESSION`, words, and an end.
+fn put_lines(out: &mut Vec<u8>, words: &[u8]) -> Result<(), OutOfMemory> {
+    for session in 1..33_u32 {
+        put_number(out, session)?;
+        put(out, words)?;
+        put(out, b"\n")?;
     }
+    Ok(())
+}
+
+#[test]
+fn all_sessions_are_open_at_once(rt: HostRuntime) -> Result<(), Fail> {
+    let mut script = Vec::new(rt.alloc());
+    put_lines(&mut script, b": BEGIN;")?;
+    put_lines(&mut script, b": COMMIT;")?;
+    let mut output = Vec::new(rt.alloc());
+    put_lines(&mut output, b" begun 0")?;
+    put_lines(&mut output, b" ended")?;
+    let printed = run(rt.alloc(), script.as_slice())?;
+    assert_eq!(rt; printed.output.as_slice(), output.as_slice());
+    assert_eq!(rt; printed.status, Status::Done);
+    Ok(())
+}
+
+/// The answer of session 7 that has this reply.
+fn reply_of(reply: Reply) -> SessionAnswer {
+    SessionAnswer {
+        session: 7,
+        answer: Answer { reply, name: None },
+    }
+}
+
+fn refusal_of(refusal: Refusal) -> SessionAnswer {
+    reply_of(Reply::Refused(refusal))
+}
+
+#[test]
+fn replies_have_their_texts(rt: HostRuntime) -> Result<(), Fail> {
+    let receipt = Receipt {
+        number: 3,
+        moment: 9,
+    };
+    let conflict = Refusal::Conflict {
+        table: 4,
+        row: 5,
+        by: Holder::Transaction(6),
+    };
+    let exhausted = Exhausted {
+        clock: 0,
+        rows: 1,
+        transactions: 2,
+        iteration: 3,
+    };
+    let name = List::from_vec(bytes(rt.alloc(), b"t")?);
+    let answers = vec![in rt.alloc();
+        reply_of(Reply::Created { receipt }),
+        reply_of(Reply::Changed {
+            count: 2,
+            receipt: None
+        }),
+        reply_of(Reply::Begun { start: 2 }),
+        reply_of(Reply::Committed { receipt }),
+        reply_of(Reply::Ended),
+        reply_of(Reply::Checkpointed { iteration: 8 }),
+        SessionAnswer {
+            session: 32,
+            answer: Answer {
+                reply: Reply::Refused(conflict),
+                name: Some(name)
+            },
+        },
+        refusal_of(Refusal::TooLarge {
+            bytes: 10,
+            rows: 11
+        }),
+        refusal_of(Refusal::Exhausted(exhausted)),
+        refusal_of(Refusal::OutOfMemory),
+        refusal_of(Refusal::DiskFault { stops: true }),
+    ]?;
+    let output = plain_output(rt.alloc(), answers.as_slice(), Some(12))?;
+    assert_eq!(rt;
+        output.as_slice(),
+        b"7 created\n7 changed 2\n7 begun 2\n7 committed 3\n7 ended\n7 checkpointed 8\n32 conflict t 5 transaction 6\n7 too large 10 11\n7 exhausted\n7 out of memory\n7 disk fault stopped\nbad line 12\n".as_slice()
+    );
+    Ok(())
+}
+
+#[test]
+fn the_gravest_trouble_is_the_status(rt: HostRuntime) -> Result<(), Fail> {
+    let want = Reply::Refused(Refusal::OutOfMemory);
+    let fault = Reply::Refused(Refusal::DiskFault { stops: false });
+    let wanting = trouble_behind(Trouble::Nothing, &want);
+    assert_eq!(rt; status_for(wanting), Status::OutOfMemory);
+    assert_eq!(rt;
+        status_for(trouble_behind(wanting, &Reply::Ended)),
+        Status::OutOfMemory
+    );
+    let failed = trouble_behind(wanting, &fault);
+    assert_eq!(rt;
+        status_for(trouble_behind(failed, &want)),
+        Status::DiskFault
+    );
     Ok(())
 }
 

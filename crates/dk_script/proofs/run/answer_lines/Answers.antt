@@ -7,7 +7,7 @@ use Rattle.dk_script.proofs.run.answer_lines.Goals as goal
 pub lines-preserved : goal.lines-preserved
 lines-preserved g c = record {
   ready = c.in-Ok-true.ensures.ready;
-  known = progress_more c.lines.run c.answer_next_line.new.run (g.K.Sink.taken c.args.sink.now)
+  known = progress_more g.R.Runner.stands c.lines.run c.answer_next_line.new.run (g.K.Sink.taken c.args.sink.now)
       (g.K.Sink.taken c.lines.sink) (g.K.Sink.taken c.answer_next_line.new.sink)
       (g.S.Source.left c.args.source.now) (g.S.Source.left c.lines.source)
       (g.S.Source.left c.answer_next_line.new.source)
@@ -19,15 +19,14 @@ lines-preserved g c = record {
 
 pub returns-in-Ok-false-clause-replies : goal.returns-in-Ok-false-clause-replies
 returns-in-Ok-false-clause-replies g c =
-    let end = c.in-Ok-false.ensures.end (ap Ok c.in-Ok-false.field-0-test) in
-    progress_end c.lines.run (g.K.Sink.taken c.args.sink.now) (g.K.Sink.taken c.lines.sink)
-    (g.K.Sink.taken c.answer_next_line.new.sink)
+    progress_end g.R.Runner.stands g.met.R.Runner.legal c.lines.run c.answer_next_line.new.run
+    (g.K.Sink.taken c.args.sink.now) (g.K.Sink.taken c.lines.sink) (g.K.Sink.taken c.answer_next_line.new.sink)
     (g.S.Source.left c.args.source.now) (g.S.Source.left c.lines.source) (g.S.Source.left c.answer_next_line.new.source)
-    (ap g.K.Sink.taken end.0) c.lines.invariant.known end.1
+    c.lines.invariant.known (c.in-Ok-false.ensures.end (ap Ok c.in-Ok-false.field-0-test))
 
 pub returns-in-Err-clause-replies : goal.returns-in-Err-clause-replies
 returns-in-Err-clause-replies g c =
-    progress_stop c.in-Err.status c.lines.run c.answer_next_line.new.run _ _ (g.K.Sink.taken c.args.sink.now)
-    (g.K.Sink.taken c.lines.sink) (g.K.Sink.taken c.answer_next_line.new.sink)
+    progress_stop g.R.Runner.stands g.met.R.Runner.legal c.in-Err.status c.lines.run c.answer_next_line.new.run _ _
+    (g.K.Sink.taken c.args.sink.now) (g.K.Sink.taken c.lines.sink) (g.K.Sink.taken c.answer_next_line.new.sink)
     (g.S.Source.left c.args.source.now) (g.S.Source.left c.lines.source) (g.S.Source.left c.answer_next_line.new.source)
     c.in-Err.ensures.counts.counts.taken c.lines.invariant.known c.in-Err.ensures.stop

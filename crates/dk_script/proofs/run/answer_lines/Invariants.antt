@@ -8,9 +8,9 @@ use Rattle.dk_script.proofs.run.answer_lines.Given as goal
 
 abbrev pub invariant-lines : goal.invariant-lines
 invariant-lines g l = record {
-  ready : IsReady l.run.reader l.run.store l.run.page.items (g.S.Source.left l.source);
+  ready : IsReady l.run.reader l.run.page.items (g.S.Source.left l.source);
   known : IfBothKnown (g.S.Source.left l.fn.source) (g.S.Source.left l.source)
-      (Progress l.run (g.K.Sink.taken l.fn.sink) (g.K.Sink.taken l.sink));
+      (Progress g.R.Runner.stands l.run (g.K.Sink.taken l.fn.sink) (g.K.Sink.taken l.sink));
   taken : Counts 0 (g.S.Source.left l.fn.source) l.run.reader.taken (g.S.Source.left l.source);
   source_later : g.S.Source.faults l.fn.source ≤ g.S.Source.faults l.source;
   sink_later : g.K.Sink.faults l.fn.sink ≤ g.K.Sink.faults l.sink;
