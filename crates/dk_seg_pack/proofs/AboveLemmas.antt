@@ -1,8 +1,9 @@
 -- Differences above a least rank, and the values that they stand for.
-use Rattle.std.proofs.Common.{◌≡◌, ◌⊎◌, ℕ, ℤ, zero, suc, ◌+◌, ◌-◌, ◌*◌, ◌/◌, ◌%◌, ◌<◌, ◌≤◌, ◌^◌, Bool, true, false, ◌&&◌, ◌||◌, ◌==◌, ltb, leb, min, max, fold, map, List, [], ◌∷◌, ◌++◌, Option, Some, None, Ok, Err, refl, ap, sym, ◌∙◌, subst, arith, inl, inr, ne_eqb}
+use Rattle.std.proofs.Common.{◌≡◌, ◌⊎◌, ℕ, ℤ, zero, suc, ◌+◌, ◌-◌, ◌*◌, ◌/◌, ◌%◌, ◌<◌, ◌≤◌, ◌^◌, Bool, true, false, ◌&&◌, ◌||◌, ◌==◌, ltb, leb, min, max, fold, map, List, [], ◌∷◌, ◌++◌, length, take, Option, Some, None, Ok, Err, refl, ap, sym, ◌∙◌, subst, arith, inl, inr, ne_eqb}
 use Rattle.std.specs.List.{All, AllByRecursion, list_any}
 use Rattle.std.proofs.lemmas.Bool.{eqb-true, lt-ltb, le-ltb, le-leb, leb-true, ltb-true, lt-leb, and_parts, and_from, cases_lt}
-use Rattle.std.proofs.lemmas.List.{map-append}
+use Rattle.std.specs.Prelude.{slice_set}
+use Rattle.std.proofs.lemmas.List.{map-append, take_more_set}
 use Rattle.std.proofs.lemmas.List.Elements.{All-from_recursion}
 use Rattle.std.proofs.lemmas.List.Sums.{fold-append}
 use Rattle.std.specs.Simd.Lanes.{number_l as number}
@@ -239,9 +240,10 @@ module _ (w i d : ℕ) (bytes : List ℕ) (is : d ≡ number_in w i bytes) where
   pub more_greatest : (m : ℕ) → m ≡ greatest (unpacked w i bytes) → max m d ≡ greatest (unpacked w (i + 1) bytes)
   more_greatest m e = ap (λ (k : ℕ). max k d) e ∙ sym (ap greatest more ∙ fold-append max 0 (unpacked w i bytes) (d ∷ []))
 
-  pub more_numbers : (base : ℕ) (n : ℤ) (numbers numbers' : List ℤ) → numbers ≡ map (number_above base) (unpacked w i bytes) → n ≡ number_above base d → numbers' ≡ numbers ++ n ∷ [] → numbers' ≡ map (number_above base) (unpacked w (i + 1) bytes)
-  more_numbers base n numbers numbers' told e pushed =
-      pushed ∙ ap (λ (l : List ℤ). l ++ n ∷ []) told ∙ ap (λ (m : ℤ). map (number_above base) (unpacked w i bytes) ++ m ∷ []) e
+  pub put_number : (base : ℕ) (n : ℤ) (numbers : List ℤ) → i < length numbers → n ≡ number_above base d → take i numbers ≡ map (number_above base) (unpacked w i bytes) → take (i + 1) (slice_set numbers i n) ≡ map (number_above base) (unpacked w (i + 1) bytes)
+  put_number base n numbers h e told =
+      take_more_set numbers i n h
+      ∙ ap (λ (l : List ℤ). l ++ n ∷ []) told ∙ ap (λ (m : ℤ). map (number_above base) (unpacked w i bytes) ++ m ∷ []) e
       ∙ sym (ap (map (number_above base)) more ∙ map-append (number_above base) (unpacked w i bytes) (d ∷ []))
 
 -- what follows bytes that were taken for the differences

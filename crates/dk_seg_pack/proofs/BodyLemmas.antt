@@ -5,7 +5,7 @@ use Rattle.std.specs.Simd.Lanes.{number_l as number}
 use Rattle.std.proofs.lemmas.List.Elements.{All-from_recursion}
 use Rattle.dk_values.specs.declared.value.Value.{Value}
 use Rattle.dk_values.specs.declared.value.ColType.{ColType}
-use Rattle.dk_bytes.specs.Bits.{byte_count, packed}
+use Rattle.dk_bytes.specs.Bits.{byte_count}
 use Rattle.dk_seg_pack.specs.Packed.{rank_of, least, greatest, width_of, differences, fields, body_of, packed_bytes, value_of_rank, with_value, values_above}
 use Rattle.dk_bytes.proofs.DigitLemmas.{length-digits}
 

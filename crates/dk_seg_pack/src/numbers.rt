@@ -9,7 +9,7 @@ use dk_bytes::{bit_width, cut_if_failed};
 use dk_values::OutOfMemory;
 use std::alloc::Global;
 
-/// The least and the greatest rank of some numbers.
+/// The least and the greatest of some ranks, or of what ranks stand above one.
 #[derive(Clone, Copy, Debug)]
 pub struct RankRange {
     pub least: u64,

@@ -6,14 +6,15 @@ ghost use Rattle.std.specs.List.{All};
 ghost use Rattle.std.specs.Simd.Lanes.{number_l as number};
 ghost use Rattle.dk_bytes.specs.PlainValue.{present};
 ghost use Rattle.dk_bytes.specs.Reading.{Gives};
-ghost use Rattle.dk_bytes.specs.Bits.{bit_width, unpacked};
+ghost use Rattle.dk_bytes.specs.Bits.{bit_width, number_in, unpacked};
 ghost use Rattle.dk_seg_pack.specs.Packed.{rank_of, least, greatest, width_of, fields, packed_bytes, IsPacked, is_numeric, differences_at, numbers_at};
-ghost use Rattle.dk_seg_pack.specs.Above.{IsAbove, may_stand};
+ghost use Rattle.dk_seg_pack.specs.Above.{IsAbove, number_above, may_stand};
 
+use crate::numbers::RankRange;
 use crate::rank::{are_ranks, half_turned, number_above, rank_of};
 use dk_bytes::{
     Cursor, SegError, are_plain, bit_width, byte_count, cut_if_failed, is_present, is_zero_behind,
-    pack, packed_number, present_count, put_u8, put_u64, take_packed,
+    pack, packed_number, present_count, put_u8, put_u64, take_packed, word_of,
 };
 use dk_columns::Cells;
 use dk_seg_body::Body;
@@ -226,23 +227,88 @@ fn unpack_above(
     ensures { IfOk result (λ above. IsAbove frame.base (unpacked frame.width count bytes.now) above
         × (above.is_ended ≡ (number 256 bytes.now / 2 ^ (frame.width * count) == 0))) }
 {
-    let mut numbers = buffer;
-    let mut least = u64::MAX;
-    let mut greatest = 0u64;
-    numbers.reserve(count)?;
-    'numbers: for i in 0..count {
-        let difference = packed_number(bytes, frame.width, i);
-        numbers.push(number_above(frame.base, difference))?;
-        least = least.min(difference);
-        greatest = greatest.max(difference);
-    }
+    let mut numbers = zeros(buffer, count)?;
+    let range = unpack_into(&mut numbers, bytes, frame);
     let is_ended = is_zero_behind(bytes, frame.width, count);
     Ok(Above {
         numbers,
-        least,
-        greatest,
+        least: range.least,
+        greatest: range.greatest,
         is_ended,
     })
+}
+
+/// So many zeros, in a buffer that is empty.
+fn zeros(buffer: Vec<i64>, count: usize) -> Result<Vec<i64>, OutOfMemory>
+    requires { buffer.items ≡ [] }
+    ensures { IfOk result (λ numbers. length numbers.items ≡ count) }
+{
+    let mut numbers = buffer;
+    numbers.resize(count, 0)?;
+    Ok(numbers)
+}
+
+/// Puts the numbers that packed differences stand for in the place of others. The least and the greatest difference.
+fn unpack_into(numbers: &mut [i64], bytes: &[u8], frame: Frame) -> RankRange
+    requires width { frame.width ≤ 64 }
+    requires within { frame.width * length numbers.old ≤ 8 * length bytes.now }
+    ensures numbers { numbers.new ≡ map (number_above frame.base) (unpacked frame.width (length numbers.old) bytes.now) }
+    ensures least { result.least ≡ least (unpacked frame.width (length numbers.old) bytes.now) }
+    ensures greatest { result.greatest ≡ greatest (unpacked frame.width (length numbers.old) bytes.now) }
+{
+    let mut least = u64::MAX;
+    let mut greatest = 0u64;
+    'numbers: for i in 0..numbers.len() {
+        let difference = number_at(bytes, frame.width, i);
+        numbers[i] = number_above(frame.base, difference);
+        least = least.min(difference);
+        greatest = greatest.max(difference);
+    }
+    RankRange { least, greatest }
+}
+
+/// The most bits of a number that stand in the word of its first byte, wherever in that byte the number begins.
+const NARROW: u32 = 56;
+
+/// So many bytes have fewer bits than a word counts.
+const FEW: usize = 1 << 56;
+
+/// Number `i` of that width, by the arithmetic of words where a word counts the bits of all bytes.
+fn number_at(bytes: &[u8], width: u32, i: usize) -> u64
+    requires width { width ≤ 64 }
+    requires within { width * i ≤ 8 * length bytes.now }
+    ensures { result ≡ number_in width i bytes.now }
+{
+    if width <= NARROW && bytes.len() < FEW {
+        narrow_number(bytes, width, i)
+    } else {
+        packed_number(bytes, width, i)
+    }
+}
+
+/// The same, from the one word that begins at its first byte, where the bytes have that word.
+fn narrow_number(bytes: &[u8], width: u32, i: usize) -> u64
+    requires width { width ≤ 56 }
+    requires within { width * i ≤ 8 * length bytes.now }
+    requires few { length bytes.now < 2 ^ 56 }
+    ensures { result ≡ number_in width i bytes.now }
+{
+    let bit = width as usize * i;
+    let front = &bytes[bit / 8..];
+    if front.len() < 8 {
+        return packed_number(bytes, width, i);
+    }
+    let (word, _) = split_word(front);
+    (word >> (bit % 8)) & ((1 << width) - 1)
+}
+
+/// The first eight bytes as a number, the least byte first, and the bytes behind them.
+fn split_word(bytes: &[u8]) -> (u64, &[u8])
+    requires { 8 ≤ length bytes.now }
+    ensures { number 256 bytes.now ≡ result.0 + 2 ^ 64 * number 256 result.1.now }
+{
+    let (front, behind) = bytes.split_at(8);
+    (word_of(front), behind)
 }
 
 /// Whether a body may have these differences: one is 0, the width is that of the greatest, and all stand for values.

@@ -1,6 +1,5 @@
 -- The numbers of a column without nulls stand for its values.
-use Rattle.std.proofs.Common.{◌≡◌, inl, inr, ℕ, ℤ, suc, true, false, List, [], ◌∷◌, length, map, Result, Ok, Err, refl, ap, subst, ◌∙◌}
-use Rattle.std.specs.Prelude.{IfOk}
+use Rattle.std.proofs.Common.{◌≡◌, inl, inr, ℕ, ℤ, suc, true, false, List, [], ◌∷◌, length, map, refl, ap, subst, ◌∙◌}
 use Rattle.std.specs.List.{AllByRecursion, list_all}
 use Rattle.dk_values.specs.declared.value.ColType.{ColType}
 use Rattle.dk_values.specs.declared.value.ColType.TheVariants as types
@@ -32,12 +31,12 @@ one_there types.Text value n h e = absurd n
 one_there kind cell.Null n h e = absurd cc
 one_there kind value n h e = absurd h
 
-record AreThere (kind : ColType) (values : List Value) : Type 0 where
-  stand : AllStandFor kind (map columns.number_of values)
-  again : values_for kind (map columns.number_of values) ≡ values
-  there : list_all is_present values ≡ true
+pub record AreThere (kind : ColType) (values : List Value) : Type 0 where
+  pub stand : AllStandFor kind (map columns.number_of values)
+  pub again : values_for kind (map columns.number_of values) ≡ values
+  pub there : list_all is_present values ≡ true
 
-all_there : (kind : ColType) (values : List Value) → IsNumeric kind → AllByRecursion (IsCell kind) values → AreAllThere values → AreThere kind values
+pub all_there : (kind : ColType) (values : List Value) → IsNumeric kind → AllByRecursion (IsCell kind) values → AreAllThere values → AreThere kind values
 all_there kind [] n h e = record { stand = tt; again = refl; there = refl }
 all_there kind (v ∷ vs) n h e =
     let first : columns.is_present v ≡ true = cc in
@@ -50,7 +49,7 @@ all_there kind (v ∷ vs) n h e =
       there = rw one.there all.there;
     }
 
-length-numbers : (values : List Value) → length (map columns.number_of values) ≡ length values
+pub length-numbers : (values : List Value) → length (map columns.number_of values) ≡ length values
 length-numbers [] = refl
 length-numbers (v ∷ vs) = ap suc (length-numbers vs)
 
@@ -64,7 +63,7 @@ module _ (kind : ColType) (values : List Value) (numbers : List ℤ) (column : I
   }
 
   -- their segment is the column's
-  segment_is : (bytes : List ℕ) → ((encoding : Encoding) × IsBest kind (values_for kind numbers) encoding × (bytes ≡ number_segment encoding kind numbers))
+  pub segment_is : (bytes : List ℕ) → ((encoding : Encoding) × IsBest kind (values_for kind numbers) encoding × (bytes ≡ number_segment kind numbers encoding))
       → (encoding : Encoding) × IsBest kind (present values) encoding × IsSegment kind encoding values bytes
   segment_is bytes (encoding, best, spelled) =
       let all = all_there kind values numeric column.cells whole in
@@ -81,16 +80,3 @@ module _ (kind : ColType) (values : List Value) (numbers : List ℤ) (column : I
           spelled = rw (all.there, kept) (spelled ∙ rw (same, count) refl);
         },
       )
-
-  pub answered : {E : Type 0} {X : Type 0} (items : X → List ℕ) (result : Result X E)
-      → IfOk result (λ v. (encoding : Encoding) × IsBest kind (values_for kind numbers) encoding × (items v ≡ number_segment encoding kind numbers))
-      → IfOk result (λ v. (encoding : Encoding) × IsBest kind (present values) encoding × IsSegment kind encoding values (items v))
-  answered items (Ok v) h = segment_is (items v) h
-  answered items (Err e) h = tt
-
--- the encoding that was chosen, and its segment
-pub chosen : {E : Type 0} {X : Type 0} (kind : ColType) (numbers : List ℤ) (items : X → List ℕ) (encoding : Encoding) (result : Result X E) → IsBest kind (values_for kind numbers) encoding
-    → IfOk result (λ v. items v ≡ number_segment encoding kind numbers)
-    → IfOk result (λ v. (e : Encoding) × IsBest kind (values_for kind numbers) e × (items v ≡ number_segment e kind numbers))
-chosen kind numbers items encoding (Ok v) best h = (encoding, best, h)
-chosen kind numbers items encoding (Err e) best h = tt

@@ -4,3 +4,4 @@ pub mod ChoiceLemmas
 pub mod SegmentLemmas
 pub mod NumberSizeLemmas
 pub mod ColumnNumberLemmas
+pub mod MaskedLemmas

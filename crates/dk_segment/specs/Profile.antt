@@ -43,6 +43,6 @@ abbrev pub AreAllThere : List Value → Type 0
 AreAllThere values = map is_present values ≡ replicate (length (map is_present values)) true
 
 -- the encoding, no mask, the number of values, and their body
-abbrev pub number_segment : Encoding → ColType → List ℤ → List ℕ
-number_segment encoding kind numbers =
+abbrev pub number_segment : ColType → List ℤ → Encoding → List ℕ
+number_segment kind numbers encoding =
     code_of encoding ∷ 0 ∷ (to_le_bytes w32 (length numbers) ++ body_of encoding (values_for kind numbers))

@@ -4,11 +4,11 @@ ghost use Rattle.std.specs.Prelude.{◌≡◌, ◌++◌, ◌+◌, ◌*◌, ◌�
 ghost use Rattle.dk_bytes.specs.PlainValue.{plain_bytes};
 ghost use Rattle.dk_seg_body.specs.Numbers.{StandsFor, AllStandFor, value_for, values_for, number_len};
 ghost use Rattle.dk_segment.specs.Bodies.{Holds, body_of};
-ghost use Rattle.dk_segment.specs.Choice.{AreSizes};
+ghost use Rattle.dk_segment.specs.Choice.{AreSizes, IsBest};
 ghost use Rattle.dk_segment.specs.declared.present.TheConstants.{MAX_VALUES};
 ghost use Rattle.dk_segment.specs.Profile.{AreFew, IsProfile, sizes_for};
 
-use crate::choice::Sizes;
+use crate::choice::{Sizes, best};
 use crate::encoding::Encoding;
 use dk_bytes::byte_count;
 use dk_seg_body::{number_len, put_number};
@@ -25,7 +25,7 @@ pub(crate) struct Profile {
 }
 
 /// What is to be known of the numbers.
-pub(crate) fn profile_of(numbers: &[i64]) -> Profile
+fn profile_of(numbers: &[i64]) -> Profile
     ensures { IsProfile numbers.now result }
 {
     Profile {
@@ -34,8 +34,26 @@ pub(crate) fn profile_of(numbers: &[i64]) -> Profile
     }
 }
 
+/// An encoding, and what is to be known of the numbers that it is for.
+#[derive(Clone, Copy)]
+pub(crate) struct Plan {
+    pub(crate) encoding: Encoding,
+    pub(crate) profile: Profile,
+}
+
+/// The encoding of least size for the values that the numbers stand for.
+pub(crate) fn plan_for(numbers: &[i64], kind: ColType) -> Plan
+    requires { AreFew kind numbers.now }
+    ensures best { IsBest kind (values_for kind numbers.now) result.encoding }
+    ensures profile { IsProfile numbers.now result.profile }
+{
+    let profile = profile_of(numbers);
+    let encoding = best(number_sizes(numbers, kind, profile));
+    Plan { encoding, profile }
+}
+
 /// How long the body of each encoding is that holds the values.
-pub(crate) fn number_sizes(numbers: &[i64], kind: ColType, profile: Profile) -> Sizes
+fn number_sizes(numbers: &[i64], kind: ColType, profile: Profile) -> Sizes
     requires few { AreFew kind numbers.now }
     requires profile { IsProfile numbers.now profile }
     ensures { AreSizes kind (values_for kind numbers.now) result }

@@ -1,6 +1,6 @@
 //! What a segment can hold, and where its nulls stand.
-ghost use Rattle.std.specs.Prelude.{◌≡◌, ◌↔◌, ◌++◌, ◌≤◌, drop, map, IsTrue, IfOk, OnOk};
-ghost use Rattle.std.specs.List.{AllByRecursion, list_all};
+ghost use Rattle.std.specs.Prelude.{◌≡◌, ◌==◌, ◌↔◌, ◌++◌, ◌≤◌, drop, map, IsTrue, IfOk, OnOk};
+ghost use Rattle.std.specs.List.{AllByRecursion, list_all, list_any};
 ghost use Rattle.dk_bytes.specs.PlainValue.{is_present};
 ghost use Rattle.dk_bytes.specs.RowFields.{IsCell};
 ghost use Rattle.dk_segment.specs.Segment.{IsColumn, flag_of, flags_of, with_nulls, cell_if, step_of};
@@ -69,6 +69,13 @@ fn flag_of(value: &Value) -> u64
     ensures { result ≡ flag_of value.now }
 {
     if is_present(value) { 1 } else { 0 }
+}
+
+/// Whether one of the flags is that one.
+pub(crate) fn has(flags: &[u64], wanted: u64) -> bool
+    ensures { result ≡ list_any (λ flag. flag == wanted) flags.now }
+{
+    flags.iter().any(|flag| *flag == wanted)
 }
 
 /// Adds the present values of another column at their places, and nulls between them.

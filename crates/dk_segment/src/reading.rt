@@ -9,7 +9,7 @@ ghost use Rattle.dk_segment.specs.Segment.{IsSegment, ones, encoding_at, flag_at
 
 use crate::bodies::read_body;
 use crate::encoding::{Encoding, encoding_of};
-use crate::present::{MAX_VALUES, push_with_nulls};
+use crate::present::{MAX_VALUES, has, push_with_nulls};
 use dk_bytes::{Cursor, SegError, unpack};
 use dk_columns::Cells;
 use dk_values::{ColType, Value};
@@ -187,10 +187,4 @@ fn is_mask(encoding: Encoding, flags: &[u64]) -> bool
         && (is_plain encoding || list_any (λ flag. flag == 1) flags.now)) }
 {
     has(flags, 0) && (encoding == Encoding::Plain || has(flags, 1))
-}
-
-fn has(flags: &[u64], wanted: u64) -> bool
-    ensures { result ≡ list_any (λ flag. flag == wanted) flags.now }
-{
-    flags.iter().any(|flag| *flag == wanted)
 }

@@ -10,12 +10,14 @@ ghost use Rattle.dk_bytes.specs.PlainValue.{is_present, present};
 ghost use Rattle.dk_columns.specs.Columns.{number_of};
 ghost use Rattle.dk_columns.specs.Stored.{IsNumeric};
 ghost use Rattle.dk_seg_body.specs.Numbers.{values_for};
+ghost use Rattle.dk_segment.specs.Masked.{AreFlags, masked_segment};
 ghost use Rattle.dk_segment.specs.Profile.{AreFew, AreAllThere, IsProfile, number_segment};
 
 use crate::bodies::put_body;
-use crate::choice::{best, best_for};
+use crate::choice::best_for;
 use crate::encoding::{Encoding, code_of};
-use crate::numbers::{Profile, number_sizes, profile_of, put_number_body};
+use crate::masked::{flagged, flags_in, put_flags};
+use crate::numbers::{Plan, plan_for, put_number_body};
 use crate::present::{are_present, flags_of};
 use dk_bytes::{pack, put_u8, put_u32};
 use dk_columns::Cells;
@@ -34,29 +36,28 @@ pub fn encode(alloc: Global, values: &[Value], kind: ColType) -> Result<Vec<u8>,
     spell(alloc, encoding, values, kind)
 }
 
-/// The segment of a column's values in the encoding of least size. Of truths and numbers without a null it is written
-/// straight from their words; else a list of the values is made for it.
+/// The segment of a column's values in the encoding of least size. Of truths and numbers it is written straight from
+/// their words; of texts a list of the values is made for it.
 pub fn encode_cells(alloc: Global, cells: &Cells) -> Result<Vec<u8>, OutOfMemory>
     requires { IsColumn cells.now.kind cells.now.values }
     ensures { IfOk result (λ v. (encoding : Encoding) × IsBest cells.now.kind (present cells.now.values) encoding
         × IsSegment cells.now.kind encoding cells.now.values v.items) }
 {
-    match whole_numbers(cells) {
-        Some(numbers) => encode_numbers(alloc, cells, numbers),
+    match numbers_in(cells) {
+        Some(numbers) if cells.present().is_whole() => encode_numbers(alloc, cells, numbers),
+        Some(numbers) => encode_masked(alloc, cells, numbers),
         None => encode_values(alloc, cells),
     }
 }
 
-/// Lends the words of a column of truths or numbers, where none of them is known to be null.
-fn whole_numbers(cells: &Cells) -> Option<&[i64]>
+/// Lends the words of a column of truths or numbers.
+fn numbers_in(cells: &Cells) -> Option<&[i64]>
     ensures numeric { IfSome result (λ _. IsNumeric cells.now.kind) }
     ensures numbers { IfSome result (λ numbers. numbers.now ≡ map number_of cells.now.values) }
-    ensures whole { IfSome result (λ _. AreAllThere cells.now.values) }
 {
     match cells.kind() {
         ColType::Text => None,
-        _ if cells.present().is_whole() => cells.numbers(),
-        _ => None,
+        _ => cells.numbers(),
     }
 }
 
@@ -76,31 +77,77 @@ fn encode_numbers(alloc: Global, cells: &Cells, numbers: &[i64]) -> Result<Vec<u
 fn spell_numbers(alloc: Global, numbers: &[i64], kind: ColType) -> Result<Vec<u8>, OutOfMemory>
     requires { AreFew kind numbers.now }
     ensures { IfOk result (λ v. (encoding : Encoding) × IsBest kind (values_for kind numbers.now) encoding
-        × (v.items ≡ number_segment encoding kind numbers.now)) }
+        × (v.items ≡ number_segment kind numbers.now encoding)) }
 {
-    let profile = profile_of(numbers);
-    let encoding = best(number_sizes(numbers, kind, profile));
-    spell_as(alloc, encoding, numbers, kind, profile)
+    spell_as(alloc, plan_for(numbers, kind), numbers, kind)
 }
 
-/// Their segment in this encoding.
+/// Their segment by this plan.
 fn spell_as(
     alloc: Global,
-    encoding: Encoding,
+    plan: Plan,
     numbers: &[i64],
     kind: ColType,
-    profile: Profile,
 ) -> Result<Vec<u8>, OutOfMemory>
     requires few { AreFew kind numbers.now }
-    requires profile { IsProfile numbers.now profile }
-    requires holds { Holds encoding kind (values_for kind numbers.now) }
-    ensures { IfOk result (λ v. v.items ≡ number_segment encoding kind numbers.now) }
+    requires profile { IsProfile numbers.now plan.profile }
+    requires holds { Holds plan.encoding kind (values_for kind numbers.now) }
+    ensures { IfOk result (λ v. v.items ≡ number_segment kind numbers.now plan.encoding) }
 {
     let mut out = Vec::new(alloc);
-    put_u8(&mut out, code_of(encoding))?;
+    put_u8(&mut out, code_of(plan.encoding))?;
     put_u8(&mut out, 0)?;
     put_u32(&mut out, numbers.len() as u32)?;
-    put_number_body(encoding, numbers, kind, profile, &mut out)?;
+    put_number_body(plan.encoding, numbers, kind, plan.profile, &mut out)?;
+    Ok(out)
+}
+
+/// The segment of the values of a column, nulls among them, whose words these are.
+fn encode_masked(alloc: Global, cells: &Cells, numbers: &[i64]) -> Result<Vec<u8>, OutOfMemory>
+    requires column { IsColumn cells.now.kind cells.now.values }
+    requires numeric { IsNumeric cells.now.kind }
+    requires numbers { numbers.now ≡ map number_of cells.now.values }
+    ensures { IfOk result (λ v. (encoding : Encoding) × IsBest cells.now.kind (present cells.now.values) encoding
+        × IsSegment cells.now.kind encoding cells.now.values v.items) }
+{
+    let flags = flags_in(alloc, cells.present())?;
+    let found = flagged(alloc, &flags, numbers)?;
+    spell_masked(alloc, &flags, &found, cells.kind())
+}
+
+/// The segment of flags and of the values that the numbers stand for.
+fn spell_masked(
+    alloc: Global,
+    flags: &[u64],
+    numbers: &[i64],
+    kind: ColType,
+) -> Result<Vec<u8>, OutOfMemory>
+    requires flags { AreFlags flags.now }
+    requires few { AreFew kind numbers.now }
+    ensures { IfOk result (λ v. (encoding : Encoding) × IsBest kind (values_for kind numbers.now) encoding
+        × (v.items ≡ masked_segment kind flags.now numbers.now encoding)) }
+{
+    spell_masked_as(alloc, plan_for(numbers, kind), flags, numbers, kind)
+}
+
+/// Their segment by this plan.
+fn spell_masked_as(
+    alloc: Global,
+    plan: Plan,
+    flags: &[u64],
+    numbers: &[i64],
+    kind: ColType,
+) -> Result<Vec<u8>, OutOfMemory>
+    requires flags { AreFlags flags.now }
+    requires few { AreFew kind numbers.now }
+    requires profile { IsProfile numbers.now plan.profile }
+    requires holds { Holds plan.encoding kind (values_for kind numbers.now) }
+    ensures { IfOk result (λ v. v.items ≡ masked_segment kind flags.now numbers.now plan.encoding) }
+{
+    let mut out = Vec::new(alloc);
+    put_u8(&mut out, code_of(plan.encoding))?;
+    put_flags(&mut out, flags)?;
+    put_number_body(plan.encoding, numbers, kind, plan.profile, &mut out)?;
     Ok(out)
 }
 

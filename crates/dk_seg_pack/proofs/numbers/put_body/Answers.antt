@@ -1,6 +1,5 @@
-use Rattle.std.proofs.Common.{◌∙◌, ◌≡◌, ◌++◌, ◌-◌, List, ℕ, ap, subst}
+use Rattle.std.proofs.Common.{◌∙◌, ◌≡◌, ◌++◌, List, ℕ, subst}
 use Rattle.std.specs.Prelude.{OnOk}
-use Rattle.dk_bytes.specs.Bits.{bit_width}
 use Rattle.dk_seg_pack.specs.Packed.{rank}
 use Rattle.dk_seg_pack.proofs.BodyLemmas.{all_fit, fields_are}
 use Rattle.dk_seg_pack.proofs.numbers.put_body.Goals as goal
