@@ -1,12 +1,14 @@
 -- What another stamp of a node, and a bound, make of the nodes of a row.
 use Rattle.std.proofs.Common.{ℕ, zero, suc, ◌+◌, ◌<◌, ◌≤◌, ◌≡◌, Bool, true, false, List, [], ◌∷◌, ◌++◌, length, drop, take, get_or, set, Option, Some, None, refl, ap, sym, ◌∙◌, cond, eqb, ltb, arith}
-use Rattle.std.specs.Prelude.{◌||◌, ◌==◌, is_some}
+use Rattle.std.specs.Prelude.{not, ◌||◌, ◌==◌, is_some}
+use Rattle.std.specs.List.{filter}
 use Rattle.std.proofs.lemmas.Bool.Decides.{Decides-eqb}
 use Rattle.std.proofs.lemmas.List.{take_all}
 use Rattle.std.proofs.lemmas.Option.{slice_get-get_or, get_or_from_slice_get}
 use Rattle.dk_values.specs.declared.value.Value.{Value}
+use Rattle.dk_stamp.specs.declared.snapshot.TheConstants.{NEVER}
 use Rattle.dk_chain.specs.declared.node.Node.{Node}
-use Rattle.dk_chain.specs.Nodes.{RowNode, old_of, row_node, put_on, with_node, nodes_on, nodes_at, restamped, row_restamped, has_stamp, row_has_stamp, oldest_restamped, newest_restamped, last_restamped, first_restamped, oldest_has, newest_has, above, row_above}
+use Rattle.dk_chain.specs.Nodes.{RowNode, old_of, row_node, put_on, with_node, nodes_on, nodes_at, restamped, row_restamped, has_stamp, row_has_stamp, oldest_restamped, newest_restamped, last_restamped, first_restamped, oldest_has, newest_has, above, row_above, done, row_done}
 
 -- newer nodes stand before the older ones of a row
 put_on-split : (stamp : ℕ) (old : Option (List Value)) (older : List RowNode) → put_on stamp old older ≡ put_on stamp old [] ++ older
@@ -126,26 +128,37 @@ module _ (row from to : ℕ) where
   undoes nodes = undoes_on [] nodes
 
 -- a bound
-row_above-put : (bound s : ℕ) (o : Option (List Value)) (older : List RowNode) → row_above bound (put_on s o older) ≡ cond (ltb bound s) (put_on s o (row_above bound older)) (row_above bound older)
-row_above-put bound s None older = so (ltb bound s)
-  where
-    so : (b : Bool) → row_above bound older ≡ cond b (row_above bound older) (row_above bound older)
-    so true = refl
-    so false = refl
-row_above-put bound s (Some old) older = refl
+-- nodes whose stamp meets a test
+module _ (keep : ℕ → Bool) where
+  abbrev row_kept : List RowNode → List RowNode
+  row_kept nodes = filter (λ node. keep node.stamp) nodes
 
-above_on : (row bound : ℕ) (older : List RowNode) (nodes : List Node) → nodes_on row (row_above bound older) (above bound nodes) ≡ row_above bound (nodes_on row older nodes)
-above_on row bound older [] = refl
-above_on row bound older (node ∷ nodes) =
-    so (ltb bound node.stamp) (row_above-put bound node.stamp (old_of row node) older) ∙ above_on row bound (with_node row node older) nodes
-  where
-    so : (b : Bool) → row_above bound (with_node row node older) ≡ cond b (put_on node.stamp (old_of row node) (row_above bound older)) (row_above bound older)
-        → nodes_on row (row_above bound older) (cond b (node ∷ above bound nodes) (above bound nodes)) ≡ nodes_on row (row_above bound (with_node row node older)) (above bound nodes)
-    so true e = ap (λ l. nodes_on row l (above bound nodes)) (sym e)
-    so false e = ap (λ l. nodes_on row l (above bound nodes)) (sym e)
+  abbrev kept : List Node → List Node
+  kept nodes = filter (λ node. keep node.stamp) nodes
+
+  kept_put : (s : ℕ) (o : Option (List Value)) (older : List RowNode) → row_kept (put_on s o older) ≡ cond (keep s) (put_on s o (row_kept older)) (row_kept older)
+  kept_put s None older = so (keep s)
+    where
+      so : (b : Bool) → row_kept older ≡ cond b (row_kept older) (row_kept older)
+      so true = refl
+      so false = refl
+  kept_put s (Some old) older = refl
+
+  pub kept_on : (row : ℕ) (older : List RowNode) (nodes : List Node) → nodes_on row (row_kept older) (kept nodes) ≡ row_kept (nodes_on row older nodes)
+  kept_on row older [] = refl
+  kept_on row older (node ∷ nodes) =
+      so (keep node.stamp) (kept_put node.stamp (old_of row node) older) ∙ kept_on row (with_node row node older) nodes
+    where
+      so : (b : Bool) → row_kept (with_node row node older) ≡ cond b (put_on node.stamp (old_of row node) (row_kept older)) (row_kept older)
+          → nodes_on row (row_kept older) (cond b (node ∷ kept nodes) (kept nodes)) ≡ nodes_on row (row_kept (with_node row node older)) (kept nodes)
+      so true e = ap (λ l. nodes_on row l (kept nodes)) (sym e)
+      so false e = ap (λ l. nodes_on row l (kept nodes)) (sym e)
 
 pub drops : (row bound : ℕ) (nodes : List Node) → nodes_at row (above bound nodes) ≡ row_above bound (nodes_at row nodes)
-drops row bound nodes = above_on row bound [] nodes
+drops row bound nodes = kept_on (ltb bound) row [] nodes
+
+pub clears : (row : ℕ) (nodes : List Node) → nodes_at row (done nodes) ≡ row_done (nodes_at row nodes)
+clears row nodes = kept_on (λ stamp. not (stamp == NEVER)) row [] nodes
 
 -- which node gets another stamp
 has_at : (stamp i : ℕ) (nodes : List Node) (node : Node) → i < length nodes → node ≡ get_or nodes i node → eqb node.stamp stamp ≡ true → has_stamp stamp nodes ≡ true

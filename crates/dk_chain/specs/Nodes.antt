@@ -1,5 +1,5 @@
 -- The nodes of a row, and what a reader sees of the row.
-use Rattle.std.specs.Prelude.{ℕ, Bool, false, ◌||◌, ◌==◌, nat_lt, List, [], ◌∷◌, Option, Some, None, is_some, is_none, if◌then◌else◌}
+use Rattle.std.specs.Prelude.{ℕ, Bool, false, not, ◌||◌, ◌==◌, nat_lt, List, [], ◌∷◌, Option, Some, None, is_some, is_none, if◌then◌else◌}
 use Rattle.std.specs.List.{filter, list_any}
 use Rattle.dk_values.specs.declared.value.Value.{Value}
 use Rattle.dk_stamp.specs.declared.snapshot.TheConstants.{NEVER}
@@ -124,3 +124,10 @@ above bound nodes = filter (λ node. nat_lt bound node.stamp) nodes
 
 abbrev pub row_above : ℕ → List RowNode → List RowNode
 row_above bound nodes = filter (λ node. nat_lt bound node.stamp) nodes
+
+-- the nodes that were not undone
+abbrev pub done : List Node → List Node
+done nodes = filter (λ node. not (node.stamp == NEVER)) nodes
+
+abbrev pub row_done : List RowNode → List RowNode
+row_done nodes = filter (λ node. not (node.stamp == NEVER)) nodes

@@ -1,8 +1,8 @@
 //! The changes of one vector.
-ghost use Rattle.std.specs.Prelude.{◌≡◌, ◌∷◌, ◌++◌, ℕ, ◌↔◌, [], Bool, true, IsTrue, OnOk, OnErr, if◌then◌else◌};
+ghost use Rattle.std.specs.Prelude.{◌≡◌, ◌<◌, ◌∷◌, ◌++◌, ℕ, ◌↔◌, [], Bool, true, Some, length, slice_get, IsTrue, OnOk, OnErr, if◌then◌else◌};
 ghost use Rattle.dk_stamp.specs.declared.snapshot.TheConstants.{NEVER as UNDONE};
 ghost use Rattle.dk_stamp.specs.Sees.{sees};
-ghost use Rattle.dk_chain.specs.Nodes.{nodes_at, with_node, oldest_unseen, newest_stamp, unseen_in, stamp_in, has_stamp, oldest_restamped, newest_restamped, last_restamped, first_restamped, oldest_has, newest_has, above, row_above};
+ghost use Rattle.dk_chain.specs.Nodes.{nodes_at, with_node, oldest_unseen, newest_stamp, unseen_in, stamp_in, has_stamp, oldest_restamped, newest_restamped, last_restamped, first_restamped, oldest_has, newest_has, above, row_above, done, row_done};
 
 use crate::node::Node;
 use dk_rows::RowRef;
@@ -41,6 +41,21 @@ impl Chain {
         ensures { IsTrue result ↔ (self.now ≡ []) }
     {
         self.nodes.is_empty()
+    }
+
+    /// How many changes there are.
+    pub fn len(&self) -> usize
+        ensures { result ≡ length self.now }
+    {
+        self.nodes.len()
+    }
+
+    /// Lends the i-th change, counted from 0, the oldest first.
+    pub fn get(&self, i: usize) -> &Node
+        requires { i < length self.now }
+        ensures { slice_get self.now i ≡ Some result.now }
+    {
+        &self.nodes[i]
     }
 
     /// Lends what putting back the unseen nodes, newest first, leaves of a row: the old row of the oldest of them.
@@ -95,6 +110,15 @@ impl Chain {
     {
         keep_above(&mut self.nodes, bound);
     }
+
+    /// Takes away the nodes that were undone.
+    #[tactic(auto, using(crate::proofs::StampLemmas::clears))]
+    pub fn drop_undone(&mut self)
+        ensures nodes { self.new ≡ done self.old }
+        ensures rows { (row : ℕ) → nodes_at row self.new ≡ row_done (nodes_at row self.old) }
+    {
+        keep_done(&mut self.nodes);
+    }
 }
 
 /// Gives the oldest node of a stamp another one.
@@ -114,6 +138,13 @@ fn keep_above(nodes: &mut Vec<Node>, bound: u64)
     ensures { nodes.new.items ≡ above bound nodes.old.items }
 {
     nodes.retain(|node| bound < node.stamp);
+}
+
+/// Keeps the nodes that were not undone.
+fn keep_done(nodes: &mut Vec<Node>)
+    ensures { nodes.new.items ≡ done nodes.old.items }
+{
+    nodes.retain(|node| node.stamp != NEVER);
 }
 
 /// Gives the newest node of a stamp another one.

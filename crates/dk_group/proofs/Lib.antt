@@ -1,11 +1,2 @@
-pub mod HidingLemmas
-pub mod StandingLemmas
-pub mod UndoLemmas
-pub mod VectorLemmas
-pub mod ReadLemmas
-pub mod BlockedLemmas
-pub mod PlaceLemmas
-pub mod EraseLemmas
-pub mod WriteLemmas
-pub mod ChangeLemmas
-pub mod SpareLemmas
+pub mod GroupLemmas
+pub mod FillLemmas

@@ -1,13 +1,13 @@
-//! A row group with the versions of its rows in place.
+//! A row group: vectors of rows with their versions.
 //!
-//! A contract tells of one row by its stack (`specs/Stacks.antt`): its newest values, its nodes, newest first, and its
-//! two stamps. What a reader sees of it is told over any test on stamps, and so are the laws (`laws`): what a session
-//! does leaves what another one reads, wherever the other sees the stamps that are there alike before and after. It
-//! stands on `dk_version` and `dk_chain`.
+//! A contract tells of one row by its vector and its place in it, as a stack of `dk_vector`: a call makes of the stacks
+//! of one vector what a named function says, and all others are as they were. Stands on `dk_vector`.
 #![tactic(auto)]
 
-pub mod laws;
-mod vector;
-mod writes;
+mod edits;
+mod fill;
+mod group;
 
-pub use vector::{Blocked, Vector};
+pub use edits::Refusal;
+pub use fill::filled_vector;
+pub use group::{Group, Page, VECTOR_ROWS};

@@ -1,5 +1,6 @@
 //! The stamps of the rows of one vector.
 ghost use Rattle.std.specs.Prelude.{◌≡◌, ◌<◌, ◌≤◌, ◌+◌, ◌^◌, ◌++◌, [], Some, true, false, length, map, take, replicate, slice_get, OnOk, OnErr};
+ghost use Rattle.std.specs.List.{list_all};
 ghost use Rattle.dk_stamp.specs.Sees.{sees};
 ghost use Rattle.dk_version.specs.Rows.{stamps_of, rows_in, is_apart, spare_row, reinserted, with_deleted, is_there, unseen_delete};
 
@@ -87,6 +88,13 @@ impl Stamps {
         kept_at(&self.kept, row)
     }
 
+    /// Whether all rows are there for a reader. Where all have the same stamps it is one test.
+    pub fn are_there(&self, snapshot: &Snapshot) -> bool
+        ensures { result ≡ list_all (is_there (sees snapshot.now)) self.now.rows }
+    {
+        are_kept_there(&self.kept, snapshot)
+    }
+
     /// Makes room for a stamp of its own for each row.
     pub fn split(&mut self) -> Result<(), OutOfMemory>
         ensures ok { OnOk result (self.new ≡ stamps_of self.old.rows true) }
@@ -156,6 +164,24 @@ fn kept_at(kept: &Kept, row: usize) -> Stamp
         Kept::Same { stamp, .. } => *stamp,
         Kept::Each(stamps) => stamps[row],
     }
+}
+
+/// Whether all rows are there for a reader.
+#[tactic(auto, using(crate::proofs::FrontLemmas::same_there))]
+fn are_kept_there(kept: &Kept, snapshot: &Snapshot) -> bool
+    ensures { result ≡ list_all (is_there (sees snapshot.now)) (rows_in kept.now) }
+{
+    match kept {
+        Kept::Same { stamp, count } => *count == 0 || stamp.is_there(snapshot),
+        Kept::Each(stamps) => are_each_there(stamps, snapshot),
+    }
+}
+
+/// Whether all rows are there for a reader.
+fn are_each_there(stamps: &[Stamp], snapshot: &Snapshot) -> bool
+    ensures { result ≡ list_all (is_there (sees snapshot.now)) stamps.now }
+{
+    stamps.iter().all(|stamp| stamp.is_there(snapshot))
 }
 
 /// Makes room for a stamp of its own for each row.

@@ -1,7 +1,0 @@
-use Rattle.std.proofs.Common.{◌≡◌, drop}
-use Rattle.dk_stamp.specs.Sees.{sees}
-use Rattle.dk_group.specs.Vectors.{first_blocked, against_in}
-use Rattle.dk_group.proofs.vector.Vector.first_blocked.Given as goal
-
-abbrev pub invariant-rows : goal.invariant-rows
-invariant-rows l = first_blocked (against_in (sees l.snapshot) l.self) (drop l.i l.rows) ≡ first_blocked (against_in (sees l.snapshot) l.self) l.rows

@@ -1,5 +1,0 @@
-use Rattle.dk_group.proofs.EraseLemmas.{ErasedSoFar}
-use Rattle.dk_group.proofs.vector.erase_rows.Given as goal
-
-abbrev pub invariant-rows : goal.invariant-rows
-invariant-rows l = ErasedSoFar l.id l.rows l.i l.fn.stamps l.stamps

@@ -1,0 +1,13 @@
+pub mod HidingLemmas
+pub mod StandingLemmas
+pub mod UndoLemmas
+pub mod VectorLemmas
+pub mod ReadLemmas
+pub mod BlockedLemmas
+pub mod PlaceLemmas
+pub mod EraseLemmas
+pub mod WriteLemmas
+pub mod ChangeLemmas
+pub mod SpareLemmas
+pub mod WholeLemmas
+pub mod PageLemmas
