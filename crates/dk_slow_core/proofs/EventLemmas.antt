@@ -1,6 +1,7 @@
 -- The core behind each event, by its parts.
 use Rattle.std.proofs.Common.{◌≡◌, ℕ, ◌-◌, true, false, List, [], ◌∷◌, ◌++◌, Some, None, slice_set, ap, ◌∙◌, sym, refl}
 use Rattle.std.specs.Prelude.{Bool, Option, option_map, if◌then◌else◌}
+use Rattle.dk_values.specs.declared.column.Column.{Column}
 use Rattle.dk_values.specs.declared.value.Value.{Value}
 use Rattle.dk_types.specs.declared.reply.Refusal.TheVariants as refusal
 use Rattle.dk_types.specs.declared.reply.Reply.{Reply}
@@ -8,6 +9,7 @@ use Rattle.dk_types.specs.declared.vector.VectorId.{VectorId}
 use Rattle.dk_si.specs.declared.history.Asked.{Asked}
 use Rattle.dk_si.specs.declared.history.Entry.{Entry}
 use Rattle.dk_si.specs.declared.history.Entry.TheVariants as entry
+use Rattle.dk_core.specs.declared.event.Done.TheVariants as done
 use Rattle.dk_core.specs.declared.event.Event.TheVariants as event
 use Rattle.dk_core.specs.declared.seat.Seat.{Seat}
 use Rattle.dk_si.specs.Standing.{first_standing}
@@ -16,7 +18,8 @@ use Rattle.dk_core.specs.Core.{Core, no_seat, seat_at, next_snapshot}
 use Rattle.dk_core.specs.Entries.{state_with, standing_with, with_entry}
 use Rattle.dk_core.specs.Findings.{is_full, spent_numbers}
 use Rattle.dk_core.specs.Step.{seat_after_reply, without_oldest, without_newest}
-use Rattle.dk_slow_core.specs.Moves.{entered, placed, machine_behind, standing_behind, standing_of, core_behind}
+use Rattle.dk_slow_core.specs.Moves.{entered, placed, standing_behind, standing_of, core_behind}
+use Rattle.dk_slow_state.specs.Moves.{machine_behind}
 use Rattle.dk_slow_seats.specs.Seats.{with_seat, begun_entry, seats_with, seats_put}
 
 pub standing_first : (iteration : ℕ) → standing_of iteration [] ≡ first_standing
@@ -132,3 +135,10 @@ pub adopt_behind : (core : Core) (number table group first : ℕ) (rows : List (
     → placed core number table group rows ≡ core_behind core (event.Adopt number table group first rows)
 unfolding core_behind
 adopt_behind core number table group first rows = refl
+
+-- the first point of a creation
+pub create_behind : (core : Core) (number moment : ℕ) (name : List ℕ) (schema : List Column)
+    → seats_with core number (λ seat. record seat { creates = Some (record { name = name; schema = schema }) })
+    ≡ core_behind core (event.Point number (done.Create name schema) moment)
+unfolding core_behind
+create_behind core number moment name schema = refl

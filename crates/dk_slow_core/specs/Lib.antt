@@ -1,2 +1,4 @@
 pub mod Moves
+pub mod Outcomes
+pub mod Reads
 pub mod Code

@@ -1,26 +1,31 @@
 //! The core itself.
-ghost use Rattle.std.specs.Prelude.{◌≡◌, ◌+◌, ◌^◌, ◌<◌, ◌≤◌, ℕ, true, Some, None, length, option_map, slice_set, IfOk, OnOk, OnErr};
+ghost use Rattle.std.specs.Prelude.{◌≡◌, ◌+◌, ◌^◌, ◌<◌, ◌≤◌, ◌++◌, ◌∷◌, [], ℕ, true, Some, None, length, option_map, slice_set, IfOk, OnOk, OnErr};
 ghost use Rattle.dk_types.specs.declared.vector.VectorId.{VectorId};
+ghost use Rattle.dk_core.specs.declared.event.Done.TheVariants as done_variants;
 ghost use Rattle.dk_core.specs.declared.event.Event.TheVariants as event;
 ghost use Rattle.dk_core.specs.Allows.{is_bound};
-ghost use Rattle.dk_core.specs.Core.{first_core, no_seat, seat_at, next_snapshot};
+ghost use Rattle.dk_core.specs.Core.{first_core, no_seat, seat_at, next_snapshot, next_receipt};
 ghost use Rattle.dk_core.specs.Findings.{is_full, spent_numbers, conflict};
 ghost use Rattle.dk_core.specs.Layout.{groups_of, rows_in, with_rows};
 ghost use Rattle.dk_core.specs.Step.{seat_after_reply, without_oldest, without_newest};
-ghost use Rattle.dk_slow_core.specs.Moves.{entered, core_behind, placed, FitsIn};
-ghost use Rattle.dk_slow_seats.specs.Seats.{seats_with, seats_put, start_at, with_version};
+ghost use Rattle.dk_slow_core.specs.Moves.{entered, core_behind, committed, placed, FitsIn};
+ghost use Rattle.dk_slow_core.specs.Outcomes.{begin_outcome, change_outcome, numbered, point_outcome, refusal_outcome};
+ghost use Rattle.dk_slow_seats.specs.Seats.{seats_with, seats_put, start_at, committed_at, with_version};
 
-use crate::state::State;
-use dk_core::{Seat, Snapshot};
+use crate::outcome::Outcome;
+use dk_core::{Done, NewTable, Seat, Snapshot};
 use dk_plain::CommitLog;
 use dk_si::Database;
+use dk_si::database::Table;
 use dk_si::history::{Asked, Entry};
 use dk_si::limits::SESSIONS;
+use dk_si::machine::Session;
 use dk_slow_seats::conflicts::Scope;
 use dk_slow_seats::layout::{self, Groups, layout_of};
 use dk_slow_seats::seats::{self, empty_seats};
 use dk_slow_seats::{bounds, room};
-use dk_types::{Exhausted, OutOfMemory, Refusal, Reply, Rows, TableNet};
+use dk_slow_state::state::State;
+use dk_types::{Commit, Exhausted, List, OutOfMemory, Receipt, Refusal, Reply, Rows, TableNet};
 use std::alloc::Global;
 use std::marker::Model;
 
@@ -57,6 +62,16 @@ impl Model for Core {
     } };
 }
 
+/// What a Change tells of why it was refused.
+fn outcome_of(refusal: &Refusal) -> Outcome
+    ensures { result ≡ refusal_outcome refusal.now }
+{
+    match refusal {
+        Refusal::Conflict { row, by, .. } => Outcome::Conflict { row: *row, by: *by },
+        _ => Outcome::Done,
+    }
+}
+
 impl Core {
     /// The core of a database that was opened at that iteration, for sessions with the numbers from 1 to this one.
     #[tactic(auto, using(crate::proofs::EventLemmas::standing_first))]
@@ -80,6 +95,11 @@ impl Core {
             seats,
             layout,
         })
+    }
+
+    /// What allocates for the core.
+    pub fn alloc(&self) -> Global {
+        *self.entries.allocator()
     }
 
     /// One more entry.
@@ -159,24 +179,27 @@ impl Core {
     }
 
     /// A session's transaction begins, or there is no room for one.
-    #[tactic(auto, using(crate::proofs::EventLemmas::full_behind, crate::proofs::EventLemmas::begin_behind))]
-    pub fn begin(&mut self, session: u32) -> Result<(), OutOfMemory>
+    #[tactic(auto, using(crate::proofs::EventLemmas::full_behind, crate::proofs::EventLemmas::begin_behind, crate::proofs::OutcomeLemmas::full_told, crate::proofs::OutcomeLemmas::begin_told))]
+    pub fn begin(&mut self, session: u32) -> Result<Outcome, OutOfMemory>
         ensures ok { OnOk result (self.new ≡ core_behind self.old (event.Begin session)) }
         ensures err { OnErr result (self.new ≡ self.old) }
+        ensures outcome { IfOk result (λ outcome. outcome ≡ begin_outcome self.old) }
     {
         if self.is_full() {
             let numbers = self.spent_numbers();
             self.set_found(session, Some(Refusal::Exhausted(numbers)));
-            return Ok(());
+            return Ok(Outcome::Exhausted(numbers));
         }
         let live = self.next_snapshot();
+        let number = live.number;
+        let start = live.start;
         self.enter(Entry::Begun {
             session,
-            number: live.number,
-            start: live.start,
+            number,
+            start,
         })?;
         self.begin_snapshot(session, live);
-        Ok(())
+        Ok(Outcome::Begun { number, start })
     }
 
     fn put_seat(&mut self, session: u32, seat: Option<Seat>)
@@ -272,6 +295,99 @@ impl Core {
         ensures { (table group root : ℕ) → self.new ≡ core_behind self.old (event.Settle table group root) }
     {}
 
+    fn set_creates(&mut self, session: u32, creates: NewTable)
+        ensures { self.new ≡ seats_with self.old session (λ seat. record seat { creates = Some creates }) }
+    {
+        seats::set_creates(&mut self.seats, session, creates);
+    }
+
+    fn next_receipt(&self, moment: u64) -> Receipt
+        ensures { result ≡ next_receipt self.entry.now.now moment }
+    {
+        Receipt {
+            number: self.now.commits().len() as u64 + 1,
+            moment,
+        }
+    }
+
+    fn seat_behind_commit(&self, session: u32) -> Result<Option<Seat>, OutOfMemory>
+        ensures { IfOk result (λ seat. seat ≡ committed_at (length self.entry.now.now.commits) self.entry.now.seats session) }
+    {
+        let alloc = *self.entries.allocator();
+        seats::seat_behind_commit(alloc, self.seats.as_slice(), session, self.now.commits())
+    }
+
+    /// A session's call is answered by a reply that is a commit.
+    fn commit(&mut self, session: u32, reply: Reply) -> Result<Outcome, OutOfMemory>
+        ensures ok { OnOk result (self.new ≡ committed self.old session reply) }
+        ensures err { OnErr result (self.new ≡ self.old) }
+        ensures outcome { IfOk result (λ outcome. outcome ≡ numbered self.old) }
+    {
+        let number = self.now.commits().len() as u64 + 1;
+        let seat = self.seat_behind_commit(session)?;
+        self.enter(Entry::Reply { session, reply })?;
+        self.put_seat(session, seat);
+        Ok(Outcome::Numbered { number })
+    }
+
+    /// A table without groups.
+    fn add_table(&mut self) -> Result<(), OutOfMemory>
+        ensures ok { OnOk result (self.new ≡ record self.old { layout = self.old.layout ++ [] ∷ [] }) }
+        ensures err { OnErr result (self.new ≡ self.old) }
+    {
+        let alloc = *self.entries.allocator();
+        self.layout.push(List::new(alloc))?;
+        Ok(())
+    }
+
+    fn remove_last_table(&mut self)
+        ensures { self.new ≡ record self.old { layout = without_oldest self.old.layout } }
+    {
+        self.layout.truncate(self.layout.len().saturating_sub(1));
+    }
+
+    /// The second point of a creation, which is the commit.
+    #[tactic(auto, using(crate::proofs::PointLemmas::created_behind, crate::proofs::PointLemmas::last_table_removed))]
+    fn commit_creation(&mut self, session: u32, moment: u64) -> Result<Outcome, OutOfMemory>
+        ensures ok { OnOk result (self.new ≡ core_behind self.old (event.Point session done_variants.Created moment)) }
+        ensures err { OnErr result (self.new ≡ self.old) }
+        ensures outcome { IfOk result (λ outcome. outcome ≡ numbered self.old) }
+    {
+        let receipt = self.next_receipt(moment);
+        self.add_table()?;
+        match self.commit(session, Reply::Created { receipt }) {
+            Ok(outcome) => Ok(outcome),
+            Err(error) => {
+                self.remove_last_table();
+                Err(error)
+            }
+        }
+    }
+
+    /// A commit point. That of a commit tells the commit's number.
+    #[tactic(auto, using(crate::proofs::EventLemmas::create_behind, crate::proofs::PointLemmas::changed_behind, crate::proofs::PointLemmas::commit_behind))]
+    pub fn point(&mut self, session: u32, done: Done, moment: u64) -> Result<Outcome, OutOfMemory>
+        ensures ok { OnOk result (self.new ≡ core_behind self.old (event.Point session done moment)) }
+        ensures err { OnErr result (self.new ≡ self.old) }
+        ensures outcome { IfOk result (λ outcome. outcome ≡ point_outcome self.old done) }
+    {
+        match done {
+            Done::Create { name, schema } => {
+                self.set_creates(session, NewTable { name, schema });
+                Ok(Outcome::Done)
+            }
+            Done::Created => self.commit_creation(session, moment),
+            Done::Changed { count } => {
+                let receipt = Some(self.next_receipt(moment));
+                self.commit(session, Reply::Changed { count, receipt })
+            }
+            Done::Commit => {
+                let receipt = self.next_receipt(moment);
+                self.commit(session, Reply::Committed { receipt })
+            }
+        }
+    }
+
     /// A session makes a version.
     fn make_version(&mut self, session: u32, part: TableNet) -> Result<(), OutOfMemory>
         ensures ok { OnOk result (self.new ≡ seats_with self.old session (with_version part)) }
@@ -365,21 +481,25 @@ impl Core {
     }
 
     /// Rows of one vector are updated or deleted, or a conflict is found.
-    #[tactic(auto, using(crate::proofs::ChangeLemmas::no_change_behind, crate::proofs::ChangeLemmas::conflict_behind, crate::proofs::ChangeLemmas::change_behind))]
-    pub fn change(&mut self, session: u32, part: TableNet) -> Result<(), OutOfMemory>
+    #[tactic(auto, using(crate::proofs::ChangeLemmas::no_change_behind, crate::proofs::ChangeLemmas::conflict_behind, crate::proofs::ChangeLemmas::change_behind, crate::proofs::OutcomeLemmas::no_change_told, crate::proofs::OutcomeLemmas::conflict_told, crate::proofs::OutcomeLemmas::change_told))]
+    pub fn change(&mut self, session: u32, part: TableNet) -> Result<Outcome, OutOfMemory>
         ensures ok { OnOk result ((at : VectorId) → self.new ≡ core_behind self.old (event.Change session
             at part)) }
         ensures err { OnErr result (self.new ≡ self.old) }
+        ensures outcome { IfOk result (λ outcome. outcome ≡ change_outcome self.old session part) }
     {
         let Some(start) = self.start_of(session) else {
-            return Ok(());
+            return Ok(Outcome::Done);
         };
         match self.conflict(session, start, &part)? {
             Some(refusal) => {
                 self.set_found(session, Some(refusal));
-                Ok(())
+                Ok(outcome_of(&refusal))
             }
-            None => self.make_version(session, part),
+            None => {
+                self.make_version(session, part)?;
+                Ok(Outcome::Done)
+            }
         }
     }
 
@@ -388,6 +508,55 @@ impl Core {
         ensures { result.now ≡ self.entry.now.entries }
     {
         self.entries.as_slice()
+    }
+
+    /// The database that was opened.
+    pub fn opened(&self) -> &[Table]
+        ensures { result.now ≡ self.entry.now.opened }
+    {
+        self.opened.as_slice()
+    }
+
+    /// The file's iteration at opening.
+    pub fn iteration(&self) -> u64
+        ensures { result ≡ self.entry.now.iteration }
+    {
+        self.iteration
+    }
+
+    /// The sessions have the numbers from 1 to this one.
+    pub fn session_count(&self) -> u32
+        ensures { result ≡ self.entry.now.sessions }
+    {
+        self.sessions
+    }
+
+    /// The commits so far.
+    pub fn commits(&self) -> &[Commit]
+        ensures { result.now ≡ self.entry.now.now.commits }
+    {
+        self.now.commits()
+    }
+
+    /// How many transactions have begun.
+    pub fn begun(&self) -> u64
+        ensures { result ≡ self.entry.now.now.begun }
+    {
+        self.now.begun()
+    }
+
+    /// What the machine knows of each session.
+    pub fn sessions(&self) -> &[Session]
+        ensures { result.now ≡ self.entry.now.now.sessions }
+    {
+        self.now.sessions()
+    }
+
+    /// How many rows the groups of each table have.
+    pub fn layout(&self) -> &[Groups]
+        ensures { result.now ≡ self.entry.now.layout }
+    {
+        self.layout.as_slice()
     }
 
     /// What each session has beside what the machine knows of it.

@@ -2,7 +2,7 @@
 ghost use Rattle.std.specs.Prelude.{◌≡◌, ◌-◌, ◌≤◌, ◌<◌, ◌++◌, [], true, length, vec_len, vec_capacity, Some, None, IfOk, OnOk, OnErr, option_to_list, slice_set};
 ghost use Rattle.std.specs.Option.{option_copied};
 ghost use Rattle.dk_si.specs.Machine.{first_state, session_at, next_number, after_call, after_begin, after_reply};
-ghost use Rattle.dk_slow_core.specs.Moves.{moved, state_of, machine_behind};
+ghost use Rattle.dk_slow_state.specs.Moves.{moved, state_of, machine_behind};
 
 use dk_plain::{CommitLog, Inside};
 use dk_si::database::Table;
