@@ -6,7 +6,7 @@ ghost use Rattle.dk_si.specs.Meaning.{same_value, same_rows};
 use dk_types::{Row, Value};
 
 /// What is compared with another of its type.
-trait Same {
+pub trait Same {
     ghost same: { Self → Self → Bool };
 
     fn same(&self, other: &Self) -> bool
