@@ -1,6 +1,7 @@
 pub mod AnswerFitLemmas
 pub mod AnswerLemmas
 pub mod AnswerWalkLemmas
+pub mod CallLemmas
 pub mod FlightLemmas
 pub mod IterationLemmas
 pub mod LeastRowLemmas

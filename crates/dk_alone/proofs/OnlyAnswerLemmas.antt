@@ -37,7 +37,8 @@ use Rattle.dk_si.specs.MayAnswer.{may_answer, outside_answers}
 use Rattle.dk_si.specs.OneThread.{is_spent_alone, are_spent_numbers, may_reply_alone, none_in_flight}
 use Rattle.dk_si.specs.ReplyTests.{is_refused, is_spent_refusal}
 use Rattle.dk_si.specs.Standing.{FullStanding, first_standing, standing_and}
-use Rattle.dk_alone.proofs.AnswerWalkLemmas.{entries_if, found_transaction}
+use Rattle.dk_alone.proofs.AnswerWalkLemmas.{entries_if}
+use Rattle.dk_alone.proofs.CallLemmas.{found_transaction}
 use Rattle.dk_alone.proofs.FlightLemmas.{Busy, Idle, begun_in, busy_begun, busy_call, busy_reply, called, idle_begun}
 use Rattle.dk_alone.proofs.FlightLemmas.{idle_call, idle_reply}
 use Rattle.dk_alone.proofs.IterationLemmas.{Counts, busy_counts, counts_begun, counts_call, first_counts}
@@ -91,7 +92,7 @@ found_timeless opened machine number reply None = refl
 found_timeless opened machine number reply (Some before) =
     after_timeless opened machine number before.transaction before.asked before.writes before.last reply
 
-next_timeless : (opened : List Table) (machine : Machine) (number : ℕ) (reply : Reply)
+pub next_timeless : (opened : List Table) (machine : Machine) (number : ℕ) (reply : Reply)
     → next opened machine (history.Reply number (timeless reply)) ≡ next opened machine (history.Reply number reply)
 next_timeless opened machine number reply = found_timeless opened machine number reply
     (session_at machine.sessions number)

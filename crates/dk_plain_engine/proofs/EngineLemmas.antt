@@ -16,9 +16,9 @@ use Rattle.dk_si.specs.Machine.{asks_for, begins_one, is_outside, next, next_num
 use Rattle.dk_si.proofs.SessionStepLemmas.{next_begun}
 use Rattle.dk_alone.specs.AnswerHistory.{begun_next, iteration_behind, transaction_at}
 use Rattle.dk_plain_engine.specs.declared.effect.Outcome.{Outcome}
-use Rattle.dk_plain_engine.specs.Outcomes.{outcome, call_outcome, commits, is_conflict, transaction_after, commit_of, lack_effect}
+use Rattle.dk_plain_engine.specs.Outcomes.{outcome, call_outcome, commits, is_conflict, commit_of}
 use Rattle.dk_plain_engine.specs.declared.state.EngineState.{EngineState}
-use Rattle.dk_plain_engine.specs.Stands.{IsReply, IsTurn, begun_in, begins_in, carried, conflict_name, is_full, lacking, outcome_in, sessions_begun, transaction_in}
+use Rattle.dk_plain_engine.specs.Stands.{IsTurn, begun_in, begins_in, carried, conflict_name, is_full, lacking, outcome_in, sessions_begun, transaction_in}
 use Rattle.dk_plain_engine.specs.Still.{begun_for, behind_reply, state_of, transaction_behind, transaction_of, with_transaction}
 use Rattle.dk_plain_engine.specs.Turns.{may_lack}
 use Rattle.dk_plain_engine.proofs.LackLemmas.{commits_take, conflicts_take, outcome_within}

@@ -1,5 +1,5 @@
 -- Where memory may want, and what a reply that is no CHECKPOINT's leaves of the iteration.
-use Rattle.std.proofs.Common.{◌≡◌, ℕ, ◌≤◌, ◌<◌, ◌+◌, ◌-◌, Bool, true, false, List, [], ◌∷◌, length, Option, Some, None, ap, ◌∙◌, sym, refl, subst, arith, ⊎_elim}
+use Rattle.std.proofs.Common.{◌≡◌, ℕ, ◌≤◌, ◌+◌, ◌-◌, Bool, true, false, List, [], ◌∷◌, length, Option, Some, None, ap, ◌∙◌, sym, refl, subst, arith, ⊎_elim}
 use Rattle.std.specs.Prelude.{◌&&◌, ◌||◌, not, if◌then◌else◌, ◌==◌}
 use Rattle.std.proofs.lemmas.Bool.{false≢true, or_right, eqb-false, cases_lt}
 use Rattle.dk_types.specs.declared.net.Commit.{Commit}
@@ -23,18 +23,17 @@ use Rattle.dk_si.specs.declared.machine.Transaction.TheVariants as state
 use Rattle.dk_si.specs.declared.machine.WriteSet.{WriteSet}
 use Rattle.dk_si.specs.declared.meaning.Meaning.{Meaning}
 use Rattle.dk_si.specs.declared.meaning.Meaning.TheVariants as meant
-use Rattle.dk_si.specs.Answer.{answer_checkpoint, answer_outside, next_receipt, least_blocked, holder_of}
+use Rattle.dk_si.specs.Answer.{answer_outside, next_receipt, least_blocked}
 use Rattle.dk_si.specs.Database.{after}
 use Rattle.dk_si.specs.Machine.{kind_of, meaning_in, net_after, write_set}
-use Rattle.dk_si.specs.MayAnswer.{may_answer, open_answers, commit_answers, is_meant_refusal, is_refused_from, is_any_change, is_that_refusal}
+use Rattle.dk_si.specs.MayAnswer.{may_answer, open_answers, commit_answers, is_meant_refusal, is_refused_from}
 use Rattle.dk_si.specs.Meaning.{meaning}
 use Rattle.dk_si.specs.Nets.{is_empty}
 use Rattle.dk_si.specs.Size.{size_refusal}
 use Rattle.dk_alone.specs.AnswerHistory.{iteration_behind}
-use Rattle.dk_plain_engine.specs.declared.effect.Effect.{Effect}
 use Rattle.dk_plain_engine.specs.declared.effect.Effect.TheVariants as effect
 use Rattle.dk_plain_engine.specs.declared.effect.Outcome.{Outcome}
-use Rattle.dk_plain_engine.specs.Outcomes.{commits, is_conflict, stay, refuse, create_outcome, select_outcome, changed_outcome, rows_outcome, net_outcome}
+use Rattle.dk_plain_engine.specs.Outcomes.{commits, is_conflict, stay, refuse, create_outcome, select_outcome, rows_outcome}
 use Rattle.dk_plain_engine.specs.Outcomes.{change_outcome, commit_outcome, open_outcome, aborted_outcome, outcome}
 use Rattle.dk_plain_engine.specs.Turns.{takes_memory, may_lack}
 

@@ -2,7 +2,6 @@ pub mod HolderLemmas
 pub mod OutcomeLemmas
 pub mod LackLemmas
 pub mod StillLemmas
-pub mod WalkLemmas
 pub mod TurnLemmas
 pub mod StandLemmas
 pub mod EngineLemmas

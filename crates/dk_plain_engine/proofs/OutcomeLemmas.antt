@@ -1,6 +1,6 @@
 -- What a call comes to is the machine's answer, and the effect makes of the transaction what that answer makes of it.
-use Rattle.std.proofs.Common.{◌≡◌, ℕ, ◌≤◌, Bool, true, false, List, [], ◌∷◌, length, Option, Some, None, ap, ◌∙◌, sym, refl, subst, arith}
-use Rattle.std.specs.Prelude.{◌&&◌, not, if◌then◌else◌, ◌==◌}
+use Rattle.std.proofs.Common.{◌≡◌, ℕ, Bool, true, false, List, [], ◌∷◌, length, Option, Some, None, ap, ◌∙◌, sym, refl, subst}
+use Rattle.std.specs.Prelude.{◌&&◌, not, if◌then◌else◌}
 use Rattle.std.proofs.lemmas.Bool.{false≢true}
 use Rattle.dk_types.specs.declared.net.Commit.{Commit}
 use Rattle.dk_types.specs.declared.net.Commit.TheVariants as commit
@@ -23,9 +23,9 @@ use Rattle.dk_si.specs.declared.machine.Transition.{Transition}
 use Rattle.dk_si.specs.declared.machine.WriteSet.{WriteSet}
 use Rattle.dk_si.specs.declared.meaning.Meaning.{Meaning}
 use Rattle.dk_si.specs.declared.meaning.Meaning.TheVariants as meant
-use Rattle.dk_si.specs.Answer.{answer, answer_aborted, answer_open, answer_create, answer_select, answer_rows, answer_net, answer_change, answer_commit, next_receipt, least_blocked, holder_of}
+use Rattle.dk_si.specs.Answer.{answer, answer_aborted, answer_open, answer_create, answer_select, answer_rows, answer_change, answer_commit, next_receipt, least_blocked, holder_of}
 use Rattle.dk_si.specs.Database.{after}
-use Rattle.dk_si.specs.Machine.{aborts, asks_for, change_transition, creation, end_with, has_own, is_own, kind_of, meaning_in, meaning_now, net_after, net_behind, refusal_transition, stay_open, transition, write_set}
+use Rattle.dk_si.specs.Machine.{aborts, asks_for, change_transition, creation, end_with, has_own, is_own, kind_of, meaning_in, net_after, net_behind, refusal_transition, stay_open, transition, write_set}
 use Rattle.dk_si.specs.Meaning.{meaning}
 use Rattle.dk_si.specs.Nets.{is_empty}
 use Rattle.dk_si.specs.Size.{size_refusal}
@@ -34,8 +34,8 @@ use Rattle.dk_plain_engine.specs.declared.effect.Effect.TheVariants as effect
 use Rattle.dk_plain_engine.specs.declared.effect.Outcome.{Outcome}
 use Rattle.dk_plain_engine.specs.Outcomes.{open_after, open_commit, transaction_after, commit_of, commits, lack_effect, own_effect, refusal_effect, stay, refuse}
 use Rattle.dk_plain_engine.specs.Turns.{may_lack}
-use Rattle.dk_plain_engine.specs.Outcomes.{create_outcome, select_outcome, changed_outcome, rows_outcome, net_outcome, change_outcome}
-use Rattle.dk_plain_engine.specs.Outcomes.{meant_outcome, commit_outcome, open_outcome, aborted_outcome, statement_outcome, outcome}
+use Rattle.dk_plain_engine.specs.Outcomes.{create_outcome, select_outcome, rows_outcome, change_outcome}
+use Rattle.dk_plain_engine.specs.Outcomes.{commit_outcome, open_outcome, aborted_outcome, outcome}
 use Rattle.dk_plain_engine.specs.Still.{transaction_behind, commit_in}
 
 -- the replies

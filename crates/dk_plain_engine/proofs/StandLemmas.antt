@@ -1,16 +1,13 @@
 -- An engine that stands behind a history has answered one more call.
-use Rattle.std.proofs.Common.{◌≡◌, ℕ, ◌≤◌, ◌<◌, Bool, true, false, List, [], ◌∷◌, ◌++◌, length, Option, Some, None, ap, ◌∙◌, sym, refl, subst, arith}
+use Rattle.std.proofs.Common.{◌≡◌, ℕ, ◌≤◌, ◌<◌, Bool, true, false, List, [], ◌∷◌, ◌++◌, length, Option, Some, ap, ◌∙◌, sym, refl, subst, arith}
 use Rattle.std.specs.Prelude.{◌&&◌, ◌||◌, not, nat_lt, nat_le, if◌then◌else◌}
-use Rattle.std.proofs.lemmas.Bool.{false≢true, and_from, and_parts, lt-ltb, le-leb}
-use Rattle.dk_types.specs.declared.net.Commit.{Commit}
-use Rattle.dk_types.specs.declared.reply.Refusal.TheVariants as why
+use Rattle.std.proofs.lemmas.Bool.{and_from, and_parts, lt-ltb, le-leb}
 use Rattle.dk_types.specs.declared.reply.Reply.{Reply}
-use Rattle.dk_types.specs.declared.reply.Reply.TheVariants as told
 use Rattle.dk_si.specs.declared.database.Table.{Table}
 use Rattle.dk_si.specs.declared.history.Asked.{Asked}
 use Rattle.dk_si.specs.declared.history.Entry.{Entry}
 use Rattle.dk_si.specs.declared.history.Entry.TheVariants as history
-use Rattle.dk_si.specs.declared.limits.TheConstants.{SESSIONS, MAX_ITERATION}
+use Rattle.dk_si.specs.declared.limits.TheConstants.{SESSIONS}
 use Rattle.dk_si.specs.declared.machine.Machine.{Machine}
 use Rattle.dk_si.specs.declared.machine.Session.{Session}
 use Rattle.dk_si.specs.declared.machine.Transaction.{Transaction}
@@ -23,16 +20,16 @@ use Rattle.dk_si.specs.Machine.{asks_for, begins_one, first_state, is_outside, n
 use Rattle.dk_si.specs.OneThread.{is_legal_alone, is_spent_alone, none_in_flight}
 use Rattle.dk_si.specs.Standing.{FullStanding, first_standing, standing_and}
 use Rattle.dk_alone.specs.AnswerHistory.{is_call, iteration_after, iteration_behind, transaction_at, will_begin, begun_next, are_answered}
-use Rattle.dk_alone.proofs.AnswerWalkLemmas.{found_transaction}
+use Rattle.dk_alone.proofs.CallLemmas.{Ready, Wait, call_goes, begin_goes, found_transaction, first_ready, iteration_both}
+use Rattle.dk_si.proofs.GrowthLemmas.{after_both}
 use Rattle.dk_alone.proofs.FlightLemmas.{begun_in}
 use Rattle.dk_alone.proofs.WalkLemmas.{walk_is_legal}
 use Rattle.dk_plain_engine.specs.declared.state.EngineState.{EngineState}
 use Rattle.dk_plain_engine.specs.Stands.{Stands, Answers, IsReply, IsTurn, conflict_name}
 use Rattle.dk_plain_engine.specs.Still.{still, begun_for, behind_reply}
-use Rattle.dk_plain_engine.specs.Turns.{Turn, may_lack, reply_or_lack, turn_reply, told_next, told_if, turn_entries, turn_history, is_turn, are_turns}
+use Rattle.dk_plain_engine.specs.Turns.{Turn, may_lack, reply_or_lack, turn_reply, told_if, turn_entries, turn_history, is_turn, are_turns}
 use Rattle.dk_plain_engine.proofs.StillLemmas.{transaction_still, answer_still, begins_still, call_still, begun_still, reply_still}
-use Rattle.dk_plain_engine.proofs.TurnLemmas.{first_ready, turns_walk, turns_answered, state_both, iteration_both, history_and_one, turns_and_one}
-use Rattle.dk_plain_engine.proofs.WalkLemmas.{Ready, Wait, call_goes, begin_goes}
+use Rattle.dk_plain_engine.proofs.TurnLemmas.{turns_walk, turns_answered, history_and_one, turns_and_one}
 
 -- the state in which a call is answered: the call is in flight, and no other
 record Asks (machine kept : Machine) (number : ℕ) (asked : Asked) : Type 0 where
@@ -226,7 +223,7 @@ module _ (old new : EngineState) (number : ℕ) (asked : Asked) (reply : Reply) 
               ∙ (ap (λ m. behind_reply [] (begun_for [] m number asked) number (transaction_at (begun_for [] m number asked) number) asked reply)
               stands.machine
               ∙ (sym (behind_asked [] (asked_in [] machine number asked) kept number asked reply asks)
-              ∙ (ap still (sym state) ∙ ap still (sym (state_both [] first_state entries more)))));
+              ∙ (ap still (sym state) ∙ ap still (sym (after_both [] first_state entries more)))));
         };
         replied = record {
           is = sym same;

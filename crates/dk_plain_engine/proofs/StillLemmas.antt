@@ -1,11 +1,10 @@
 -- What an engine keeps of a state answers as the state does, and entries make of it what they make of the state.
-use Rattle.std.proofs.Common.{◌≡◌, ℕ, zero, suc, ◌+◌, ◌-◌, ◌*◌, Bool, true, false, List, [], ◌∷◌, ◌++◌, length, Option, Some, None, ap, ◌∙◌, sym, refl, subst, arith, slice_get, slice_set, take, drop, map, append-nil}
+use Rattle.std.proofs.Common.{◌≡◌, ℕ, zero, suc, ◌+◌, ◌-◌, ◌*◌, Bool, true, false, List, [], ◌∷◌, ◌++◌, length, Option, Some, None, ap, ◌∙◌, sym, refl, slice_get, slice_set, take, drop, map, append-nil}
 use Rattle.std.specs.Prelude.{◌&&◌, ◌||◌, not, is_none, min, nat_lt, ◌==◌, if◌then◌else◌, option_map, option_to_list}
 use Rattle.std.specs.List.{list_all, list_any, filter}
 use Rattle.std.proofs.lemmas.Bool.{false≢true, and_parts}
 use Rattle.std.proofs.lemmas.List.{map-set, drop-map, take-map, map-append}
 use Rattle.std.proofs.lemmas.Option.{slice_get-map}
-use Rattle.dk_types.specs.declared.net.Commit.{Commit}
 use Rattle.dk_types.specs.declared.net.TableNet.{TableNet}
 use Rattle.dk_types.specs.declared.reply.Holder.{Holder}
 use Rattle.dk_types.specs.declared.reply.Holder.TheVariants as holder
@@ -30,18 +29,18 @@ use Rattle.dk_si.specs.declared.machine.Transaction.TheVariants as state
 use Rattle.dk_si.specs.declared.machine.WriteSet.{WriteSet}
 use Rattle.dk_si.specs.declared.meaning.Meaning.{Meaning}
 use Rattle.dk_si.specs.declared.meaning.Meaning.TheVariants as meant
-use Rattle.dk_si.specs.Answer.{answer, answer_open, answer_net, answer_rows, answer_change, answer_statement, answer_outside, first_with, holder_of, last_change, least_where, least_blocked, next_receipt}
-use Rattle.dk_si.specs.HeldRows.{has_pending_write, is_blocked, is_rollback, other_has_pending_write, some_commit_has}
-use Rattle.dk_si.specs.Machine.{after_aborted, after_begin, after_call, after_reply, last_transaction, transition, write_set_in_flight, asks_for, begins_one, is_outside, kind_of, meaning_in, net_after, next, others, session_at, session_behind, write_set}
-use Rattle.dk_si.specs.Nets.{is_empty, net_has}
-use Rattle.dk_si.specs.OneThread.{OPEN_ROWS, is_open, is_spent_alone, none_in_flight, open_count, open_with}
+use Rattle.dk_si.specs.Answer.{answer, answer_open, answer_net, answer_rows, answer_change, answer_outside, first_with, holder_of, last_change, least_where, least_blocked}
+use Rattle.dk_si.specs.HeldRows.{has_pending_write, is_blocked, some_commit_has}
+use Rattle.dk_si.specs.Machine.{after_aborted, after_begin, after_reply, last_transaction, transition, write_set_in_flight, asks_for, begins_one, is_outside, kind_of, meaning_in, net_after, next, others, session_at, session_behind, write_set}
+use Rattle.dk_si.specs.Nets.{is_empty}
+use Rattle.dk_si.specs.OneThread.{OPEN_ROWS, is_open, is_spent_alone, none_in_flight, open_with}
 use Rattle.dk_si.specs.Size.{size_refusal}
 use Rattle.dk_si.specs.Spent.{committed_rows}
 use Rattle.dk_si.proofs.PlaceLemmas.{found_at}
 use Rattle.dk_si.proofs.SessionStepLemmas.{next_begun, next_call, next_reply}
 use Rattle.dk_si.proofs.TransitionLemmas.{session_of}
-use Rattle.dk_alone.specs.AnswerHistory.{transaction_at, will_begin, begun_next}
-use Rattle.dk_plain_engine.specs.Still.{still, still_session, state_of, begun_for, behind_reply, with_transaction}
+use Rattle.dk_alone.specs.AnswerHistory.{transaction_at, will_begin}
+use Rattle.dk_plain_engine.specs.Still.{still, still_session, state_of, behind_reply, with_transaction}
 
 -- the session of a number in what is kept
 still_at : (sessions : List Session) (number : ℕ)

@@ -1,8 +1,7 @@
 -- The history of turns is a legal history of one thread, and behind it no call is in flight.
-use Rattle.std.proofs.Common.{◌≡◌, ℕ, ◌+◌, ◌≤◌, Bool, true, false, List, [], ◌∷◌, ◌++◌, length, Option, Some, None, ap, ◌∙◌, sym, refl, subst, arith, append-nil, append_assoc}
-use Rattle.std.specs.Prelude.{◌&&◌, ◌||◌, not, is_some, ◌==◌, nat_lt, if◌then◌else◌}
-use Rattle.std.specs.List.{list_all}
-use Rattle.std.proofs.lemmas.Bool.{false≢true, and_from, and_parts, eq-eqb, not-false}
+use Rattle.std.proofs.Common.{◌≡◌, ℕ, ◌+◌, Bool, true, false, List, [], ◌∷◌, ◌++◌, length, Some, ap, ◌∙◌, sym, refl, subst, append-nil, append_assoc}
+use Rattle.std.specs.Prelude.{◌&&◌, ◌||◌, not, is_some, if◌then◌else◌}
+use Rattle.std.proofs.lemmas.Bool.{false≢true, and_from, and_parts}
 use Rattle.dk_types.specs.declared.reply.Refusal.TheVariants as why
 use Rattle.dk_types.specs.declared.reply.Reply.{Reply}
 use Rattle.dk_types.specs.declared.reply.Reply.TheVariants as told
@@ -10,28 +9,25 @@ use Rattle.dk_si.specs.declared.database.Table.{Table}
 use Rattle.dk_si.specs.declared.history.Asked.{Asked}
 use Rattle.dk_si.specs.declared.history.Entry.{Entry}
 use Rattle.dk_si.specs.declared.history.Entry.TheVariants as history
-use Rattle.dk_si.specs.declared.limits.TheConstants.{MAX_TRANSACTIONS, MAX_ROWS, SPARE_ROWS, MAX_ITERATION}
 use Rattle.dk_si.specs.declared.machine.Machine.{Machine}
 use Rattle.dk_si.specs.declared.machine.Session.{Session}
 use Rattle.dk_si.specs.declared.machine.Transaction.{Transaction}
-use Rattle.dk_si.specs.declared.machine.Transaction.TheVariants as state
 use Rattle.dk_si.specs.Answer.{answer}
 use Rattle.dk_si.specs.Exchanges.{exchanges_from, reply_from}
 use Rattle.dk_si.specs.Laws.{state_after}
-use Rattle.dk_si.specs.Machine.{asks_for, begins_one, first_state, is_outside, next, session_at}
+use Rattle.dk_si.specs.Machine.{asks_for, begins_one, is_outside, next}
 use Rattle.dk_si.specs.OneThread.{is_spent_alone}
-use Rattle.dk_si.specs.Spent.{committed_rows, is_spent}
-use Rattle.dk_si.specs.Standing.{FullStanding, first_standing, standing_and}
-use Rattle.dk_si.specs.Weight.{cap}
+use Rattle.dk_si.specs.Standing.{FullStanding, standing_and}
 use Rattle.dk_alone.specs.AnswerHistory.{is_call, iteration_and, iteration_after, iteration_behind, transaction_at, will_begin, begun_next, are_answered}
-use Rattle.dk_alone.proofs.AnswerFitLemmas.{Spent, spent_numbers}
-use Rattle.dk_alone.proofs.AnswerWalkLemmas.{found_transaction}
+use Rattle.dk_alone.proofs.AnswerFitLemmas.{Spent}
+use Rattle.dk_alone.proofs.AnswerWalkLemmas.{reply_goes}
+use Rattle.dk_alone.proofs.CallLemmas.{Ready, Wait, Answered, call_goes, begin_goes, suits_goes, spent_since, found_transaction, answered_one, iteration_both}
+use Rattle.dk_si.proofs.GrowthLemmas.{after_both}
 use Rattle.dk_alone.proofs.FlightLemmas.{begun_in}
-use Rattle.dk_alone.proofs.IterationLemmas.{first_counts}
-use Rattle.dk_alone.proofs.WalkLemmas.{first_bounded, first_line, goes, walks}
+use Rattle.dk_alone.proofs.WalkLemmas.{goes, walks}
 use Rattle.dk_plain_engine.specs.Still.{begun_for}
 use Rattle.dk_plain_engine.specs.Turns.{Turn, may_lack, reply_or_lack, turn_reply, told_next, told_if, turn_entries, turn_history, is_turn, are_turns}
-use Rattle.dk_plain_engine.proofs.WalkLemmas.{Ready, Wait, Calls, Begins, Answered, call_goes, begin_goes, answer_goes, lack_goes, spent_for_all}
+use Rattle.dk_plain_engine.proofs.LackLemmas.{lack_passes}
 
 -- entries that may come one after the other, behind which no call is in flight
 pub record Walked (opened : List Table) (it last : ℕ) (before : List Entry) (machine : Machine) (standing : FullStanding)
@@ -79,9 +75,16 @@ by_lack : (opened : List Table) (it last : ℕ) (before : List Entry) (machine :
     → Answered opened it last before machine standing number
     (reply_or_lack lacks (answer opened last machine number session.transaction asked))
 by_lack opened it last before machine standing number session asked true wait spent may =
-    lack_goes opened it last before machine standing number session asked wait may
+    suits_goes opened it last before machine standing number session asked (told.Refused why.OutOfMemory) wait (record {
+      passes = lack_passes opened machine.commits session.transaction asked may;
+      founded = refl;
+      alone = refl;
+      calm = refl;
+      next = refl;
+    })
 by_lack opened it last before machine standing number session asked false wait spent may =
-    answer_goes opened it last before machine standing number session asked wait spent
+    (reply_goes opened it last before machine standing number session asked
+    (answer opened last machine number session.transaction asked) refl wait spent).answered
 
 told_walks : (opened : List Table) (it last : ℕ) (before : List Entry) (machine : Machine) (standing : FullStanding)
     (turn : Turn) (session : Session) (rest : List Entry)
@@ -117,21 +120,8 @@ if_walks opened it last before machine standing turn session rest wait true begi
     (begun_in machine.begun (length machine.commits) session) rest begun.wait
     (λ outside. absurd (false≢true (and_parts (asks_for begins_one (Some turn.asked)) false outside).1)) may more)
 if_walks opened it last before machine standing turn session rest wait false begins may more =
-    let rows = committed_rows opened machine.commits in
     told_walks opened it last before machine standing turn session rest wait
-    (λ asks.
-    let spent = not-false (is_spent_alone opened machine) (subst (λ b. (b && not (is_spent_alone opened machine))
-    ≡ false) asks begins) in
-    let outside = (and_parts (asks_for begins_one (Some turn.asked)) (is_outside session.transaction) asks).1 in (
-      spent,
-      wait.was (is_spent opened (spent_numbers opened last before machine turn.number session.writes session.last))
-          (and_from (machine.begun == MAX_TRANSACTIONS || nat_lt MAX_ROWS (rows + SPARE_ROWS))
-          (true && (machine.begun == machine.begun && cap rows == cap rows))
-          (spent_for_all opened machine turn.number session wait.bounded wait.busy.is outside spent)
-          (and_from (machine.begun == machine.begun) (cap rows == cap rows) (eq-eqb machine.begun machine.begun refl)
-          (eq-eqb (cap rows) (cap rows) refl))),
-    ))
-    may more
+    (spent_since opened it last before machine standing turn.number session turn.asked wait begins) may more
 
 -- one turn, and what follows it
 pub turn_walks : (opened : List Table) (it last : ℕ) (before : List Entry) (machine : Machine) (standing : FullStanding)
@@ -166,22 +156,7 @@ turns_walk opened it (turn ∷ turns) last machine may before standing ready =
     (turn_history opened (iteration_after last entries) (state_after opened machine entries) turns) ready h.0
     (turns_walk opened it turns (iteration_after last entries) (state_after opened machine entries) h.1)
 
-pub first_ready : (opened : List Table) (it : ℕ) → it ≤ MAX_ITERATION → Ready opened it it [] first_state first_standing
-first_ready opened it within = record {
-  line = first_line opened;
-  bounded = first_bounded;
-  idle = record { all = refl; flights = refl };
-  counts = first_counts it within;
-  calm = record { stop = refl; needs = refl };
-}
-
 -- each call has its reply
-answered_one : (number at : ℕ) (reply : Reply) (entries : List Entry)
-    → is_some (reply_from number at (history.Reply number reply ∷ entries)) ≡ true
-answered_one number at reply entries =
-    ap (λ (b : Bool). is_some (if b then Some (record { place = at; reply = reply }) else reply_from number
-    (at + 1) entries)) (eq-eqb number number refl)
-
 answered_behind : (opened : List Table) (last : ℕ) (machine : Machine) (turn : Turn) (b : Bool) (at : ℕ) (entries : List Entry)
     → ((from : ℕ) → are_answered (exchanges_from from entries) ≡ true)
     → are_answered (exchanges_from at (history.Call turn.number turn.asked ∷ told_if opened last machine turn b ++ entries)) ≡ true
@@ -206,16 +181,7 @@ turns_answered opened (turn ∷ turns) last machine at =
     (turn_history opened (iteration_after last entries) (state_after opened machine entries) turns)
     (λ from. turns_answered opened turns (iteration_after last entries) (state_after opened machine entries) from)
 
--- lists of entries and turns, one after the other
-pub state_both : (opened : List Table) (machine : Machine) (xs ys : List Entry)
-    → state_after opened machine (xs ++ ys) ≡ state_after opened (state_after opened machine xs) ys
-state_both opened machine [] ys = refl
-state_both opened machine (x ∷ xs) ys = state_both opened (next opened machine x) xs ys
-
-pub iteration_both : (last : ℕ) (xs ys : List Entry) → iteration_after last (xs ++ ys) ≡ iteration_after (iteration_after last xs) ys
-iteration_both last [] ys = refl
-iteration_both last (x ∷ xs) ys = iteration_both (iteration_and last x) xs ys
-
+-- turns, one after the other
 pub history_and_one : (opened : List Table) (turns : List Turn) (turn : Turn) (last : ℕ) (machine : Machine)
     → turn_history opened last machine (turns ++ turn ∷ [])
     ≡ turn_history opened last machine turns ++ turn_entries opened (iteration_after last (turn_history opened last machine turns))
@@ -229,7 +195,7 @@ history_and_one opened (first ∷ turns) turn last machine =
     ap (λ list. entries ++ list) (history_and_one opened turns turn it now)
     ∙ (sym (append_assoc entries rest (turn_entries opened (iteration_after it rest) (state_after opened now rest) turn))
     ∙ (ap (λ n. (entries ++ rest) ++ turn_entries opened n (state_after opened now rest) turn) (sym (iteration_both last entries rest))
-    ∙ ap (λ m. (entries ++ rest) ++ turn_entries opened (iteration_after last (entries ++ rest)) m turn) (sym (state_both opened machine entries rest))))
+    ∙ ap (λ m. (entries ++ rest) ++ turn_entries opened (iteration_after last (entries ++ rest)) m turn) (sym (after_both opened machine entries rest))))
 
 pub turns_and_one : (opened : List Table) (turns : List Turn) (turn : Turn) (last : ℕ) (machine : Machine)
     → are_turns opened last machine turns ≡ true
@@ -243,4 +209,4 @@ turns_and_one opened (first ∷ turns) turn last machine all one =
     let h = and_parts (is_turn opened machine first) (are_turns opened it now turns) all in
     and_from (is_turn opened machine first) (are_turns opened it now (turns ++ turn ∷ [])) h.0
     (turns_and_one opened turns turn it now h.1
-    (subst (λ m. is_turn opened m turn ≡ true) (state_both opened machine entries (turn_history opened it now turns)) one))
+    (subst (λ m. is_turn opened m turn ≡ true) (after_both opened machine entries (turn_history opened it now turns)) one))

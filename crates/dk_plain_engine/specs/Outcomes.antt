@@ -1,5 +1,5 @@
 -- What a call comes to: its reply, and what that makes of its session's transaction.
-use Rattle.std.specs.Prelude.{ℕ, Bool, true, false, not, ◌&&◌, ◌==◌, List, [], ◌∷◌, length, Option, Some, None, if◌then◌else◌}
+use Rattle.std.specs.Prelude.{ℕ, Bool, true, false, not, ◌&&◌, List, [], ◌∷◌, length, Option, Some, None, if◌then◌else◌}
 use Rattle.dk_types.specs.declared.net.Commit.{Commit}
 use Rattle.dk_types.specs.declared.net.Commit.TheVariants as commit
 use Rattle.dk_types.specs.declared.net.TableNet.{TableNet}
@@ -20,7 +20,7 @@ use Rattle.dk_si.specs.declared.machine.Transaction.TheVariants as transaction
 use Rattle.dk_si.specs.declared.machine.WriteSet.{WriteSet}
 use Rattle.dk_si.specs.declared.meaning.Meaning.{Meaning}
 use Rattle.dk_si.specs.declared.meaning.Meaning.TheVariants as meant
-use Rattle.dk_si.specs.Answer.{next_receipt, holder_of, least_blocked, answer_outside, answer_aborted}
+use Rattle.dk_si.specs.Answer.{next_receipt, holder_of, least_blocked, answer_outside}
 use Rattle.dk_si.specs.Database.{after}
 use Rattle.dk_si.specs.Machine.{aborts, has_own, kind_of, meaning_in, net_after, write_set}
 use Rattle.dk_si.specs.Meaning.{meaning}

@@ -1,6 +1,5 @@
 -- An engine stands behind a history of one thread.
-use Rattle.std.specs.Prelude.{ℕ, ◌≡◌, Bool, true, not, ◌||◌, List, [], ◌∷◌, ◌++◌, Option, Some, None, option_map, slice_get, slice_set, ◌-◌}
-use Rattle.dk_types.specs.declared.reply.Refusal.{Refusal}
+use Rattle.std.specs.Prelude.{ℕ, ◌≡◌, Bool, true, not, ◌||◌, List, [], ◌++◌, Option, Some, None, option_map, slice_get, slice_set, ◌-◌}
 use Rattle.dk_types.specs.declared.reply.Refusal.TheVariants as refusal
 use Rattle.dk_types.specs.declared.reply.Reply.{Reply}
 use Rattle.dk_types.specs.declared.reply.Reply.TheVariants as reply
@@ -10,7 +9,6 @@ use Rattle.dk_si.specs.declared.history.Entry.{Entry}
 use Rattle.dk_si.specs.declared.history.Entry.TheVariants as entry
 use Rattle.dk_si.specs.declared.machine.Machine.{Machine}
 use Rattle.dk_si.specs.declared.machine.Session.{Session}
-use Rattle.dk_si.specs.declared.machine.OpenTransaction.{OpenTransaction}
 use Rattle.dk_si.specs.declared.machine.Transaction.{Transaction}
 use Rattle.dk_si.specs.declared.machine.Transaction.TheVariants as transaction
 use Rattle.dk_si.specs.Database.{view}
@@ -23,7 +21,7 @@ use Rattle.dk_plain_engine.specs.declared.effect.Outcome.{Outcome}
 use Rattle.dk_plain_engine.specs.declared.state.EngineState.{EngineState}
 use Rattle.dk_plain_engine.specs.Outcomes.{call_outcome, transaction_after, commit_of, lack_effect}
 use Rattle.dk_plain_engine.specs.Still.{still, begun_for, behind_reply, with_transaction, transaction_of}
-use Rattle.dk_plain_engine.specs.Turns.{Turn, are_turns, turn_history, turn_entries, is_turn, turn_reply, may_lack, reply_or_lack}
+use Rattle.dk_plain_engine.specs.Turns.{Turn, are_turns, turn_history, turn_entries, is_turn, may_lack, reply_or_lack}
 use Rattle.dk_si.specs.Answer.{answer}
 
 -- The entries are a legal history of one thread from an empty database at its first iteration. Each call has its

@@ -1,17 +1,15 @@
 -- What an engine on one thread keeps of the machine's state: the commits, how many transactions have begun, and each
 -- session's transaction. What sessions last held is asked for only beside other threads, and no call is in flight
 -- between two calls.
-use Rattle.std.specs.Prelude.{ℕ, ◌-◌, List, map, ◌++◌, ◌&&◌, Bool, Option, Some, None, option_to_list, slice_set, if◌then◌else◌}
+use Rattle.std.specs.Prelude.{ℕ, ◌-◌, List, map, ◌++◌, Option, Some, None, option_to_list, slice_set, if◌then◌else◌}
 use Rattle.dk_types.specs.declared.net.Commit.{Commit}
 use Rattle.dk_types.specs.declared.reply.Reply.{Reply}
 use Rattle.dk_si.specs.declared.database.Table.{Table}
 use Rattle.dk_si.specs.declared.history.Asked.{Asked}
 use Rattle.dk_si.specs.declared.machine.Machine.{Machine}
-use Rattle.dk_si.specs.declared.machine.OpenTransaction.{OpenTransaction}
 use Rattle.dk_si.specs.declared.machine.Session.{Session}
 use Rattle.dk_si.specs.declared.machine.Transaction.{Transaction}
 use Rattle.dk_si.specs.declared.machine.Transaction.TheVariants as transaction
-use Rattle.dk_si.specs.declared.machine.Transition.{Transition}
 use Rattle.dk_si.specs.Machine.{next, session_at, session_behind, transition, after_aborted}
 use Rattle.dk_alone.specs.AnswerHistory.{will_begin, begun_next}
 

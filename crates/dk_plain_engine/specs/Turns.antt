@@ -1,12 +1,12 @@
 -- Histories of an engine on one thread: each call with its Begun entry, where it makes one, and its reply, which is the
 -- machine's answer, or tells want of memory.
-use Rattle.std.specs.Prelude.{ℕ, Bool, true, false, not, ◌&&◌, ◌||◌, List, [], ◌∷◌, ◌++◌, Option, Some, if◌then◌else◌}
+use Rattle.std.specs.Prelude.{ℕ, Bool, true, false, not, ◌&&◌, ◌||◌, List, [], ◌∷◌, ◌++◌, if◌then◌else◌}
 use Rattle.dk_types.specs.declared.reply.Refusal.TheVariants as refusal
 use Rattle.dk_types.specs.declared.reply.Reply.{Reply}
 use Rattle.dk_types.specs.declared.reply.Reply.TheVariants as reply
 use Rattle.dk_si.specs.declared.database.Table.{Table}
 use Rattle.dk_si.specs.declared.history.Asked.{Asked}
-use Rattle.dk_si.specs.declared.history.Asked.TheVariants.{Unread, Bad, Good}
+use Rattle.dk_si.specs.declared.history.Asked.TheVariants.{Good}
 use Rattle.dk_si.specs.declared.history.Entry.{Entry}
 use Rattle.dk_si.specs.declared.history.Entry.TheVariants as entry
 use Rattle.dk_si.specs.declared.kind.Kind.{Kind}

@@ -7,6 +7,8 @@ ghost use Rattle.dk_si.specs.Machine.{kind_of};
 ghost use Rattle.dk_si.specs.OneThread.{is_open, is_spent_alone};
 ghost use Rattle.dk_si.specs.declared.limits.TheConstants.{MAX_ITERATION};
 ghost use Rattle.std.specs.List.{filter};
+ghost use Rattle.dk_si.specs.Spent.{committed_rows};
+ghost use Rattle.dk_si.specs.Weight.{cap};
 ghost use Rattle.dk_plain_engine.specs.Outcomes.{create_outcome, select_outcome, changed_outcome, rows_outcome};
 ghost use Rattle.dk_plain_engine.specs.Outcomes.{net_outcome, change_outcome, meant_outcome, commit_outcome};
 ghost use Rattle.dk_plain_engine.specs.Outcomes.{open_outcome, aborted_outcome, statement_outcome, outcome, call_outcome};
@@ -20,7 +22,6 @@ use crate::now::{creation_of, meaning_of, net_of, writes_of};
 use crate::scene::{RowId, Scene};
 use dk_plain::Inside;
 use dk_plain::size::size_refusal;
-use dk_plain::weights::committed_rows;
 use dk_si::history::Asked;
 use dk_si::kind::Kind;
 use dk_si::limits::{MAX_ITERATION, MAX_ROWS, MAX_TRANSACTIONS};
@@ -48,11 +49,12 @@ fn open_among(sessions: &[Session]) -> usize
 
 /// Whether no further transaction can begin.
 pub fn is_spent(scene: &Scene<'_>) -> bool
+    requires rows { scene.now.rows ≡ cap (committed_rows scene.now.log.opened.now scene.now.log.commits.now) }
     ensures { result ≡ is_spent_alone scene.now.log.opened.now (state_of scene.now.log.commits.now
         scene.now.begun scene.now.sessions.now) }
 {
     let open = (open_among(scene.sessions) as u64).saturating_add(1);
-    let rows = committed_rows(&scene.log).saturating_add(open.saturating_mul(OPEN_ROWS));
+    let rows = scene.rows.saturating_add(open.saturating_mul(OPEN_ROWS));
     scene.begun == MAX_TRANSACTIONS || MAX_ROWS < rows
 }
 
@@ -68,12 +70,13 @@ fn next_receipt(commits: &[Commit]) -> Receipt
 
 /// The numbers of which none is left for a further transaction.
 fn answer_spent(scene: &Scene<'_>) -> Reply
+    requires rows { scene.now.rows ≡ cap (committed_rows scene.now.log.opened.now scene.now.log.commits.now) }
     ensures { result ≡ answer_spent scene.now.log.opened.now (state_of scene.now.log.commits.now
         scene.now.begun scene.now.sessions.now) }
 {
     Reply::Refused(Refusal::Exhausted(Exhausted {
         clock: 0,
-        rows: committed_rows(&scene.log),
+        rows: scene.rows,
         transactions: scene.begun,
         iteration: 0,
     }))
@@ -99,7 +102,8 @@ fn answer_checkpoint(iteration: u64) -> Reply
 
 /// A statement outside a transaction.
 fn answer_outside(scene: &Scene<'_>, iteration: u64, kind: Kind) -> Reply
-    requires { iteration ≤ MAX_ITERATION }
+    requires iteration { iteration ≤ MAX_ITERATION }
+    requires rows { scene.now.rows ≡ cap (committed_rows scene.now.log.opened.now scene.now.log.commits.now) }
     ensures { result ≡ answer_outside scene.now.log.opened.now iteration (state_of
         scene.now.log.commits.now scene.now.begun scene.now.sessions.now) kind }
 {
@@ -346,6 +350,7 @@ fn statement_outcome(
     statement: &Statement,
 ) -> Result<Outcome, OutOfMemory>
     requires iteration { iteration ≤ MAX_ITERATION }
+    requires rows { scene.now.rows ≡ cap (committed_rows scene.now.log.opened.now scene.now.log.commits.now) }
     requires tables { scene.now.tables.now ≡ after_all scene.now.log.commits.now scene.now.log.opened.now }
     ensures ok { IfOk result (λ outcome. outcome ≡ statement_outcome scene.now.log.opened.now iteration
         (state_of scene.now.log.commits.now scene.now.begun scene.now.sessions.now) scene.now.number
@@ -369,6 +374,7 @@ pub fn outcome(
     asked: &Asked,
 ) -> Result<Outcome, OutOfMemory>
     requires iteration { iteration ≤ MAX_ITERATION }
+    requires rows { scene.now.rows ≡ cap (committed_rows scene.now.log.opened.now scene.now.log.commits.now) }
     requires tables { scene.now.tables.now ≡ after_all scene.now.log.commits.now scene.now.log.opened.now }
     ensures ok { IfOk result (λ found. found ≡ call_outcome scene.now.log.opened.now iteration (state_of
         scene.now.log.commits.now scene.now.begun scene.now.sessions.now) scene.now.number

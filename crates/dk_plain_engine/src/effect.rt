@@ -2,9 +2,13 @@
 ghost use Rattle.std.specs.Prelude.{◌≡◌, false, Some, None};
 ghost use Rattle.dk_si.specs.declared.kind.Kind.TheVariants as kind;
 ghost use Rattle.dk_si.specs.Machine.{aborts};
+ghost use Rattle.dk_si.specs.Spent.{new_rows_of};
+ghost use Rattle.dk_si.specs.Weight.{cap};
+ghost use Rattle.dk_plain_engine.specs.Now.{rows_entered};
 ghost use Rattle.dk_plain_engine.specs.Outcomes.{open_after, aborted_after, transaction_after, open_commit, commit_of};
 ghost use Rattle.dk_plain_engine.specs.Outcomes.{commits, own_effect, refusal_effect, stay, refuse, lack_effect};
 
+use dk_plain::weights::new_rows;
 use dk_si::history::Asked;
 use dk_si::kind::Kind;
 use dk_si::machine::{OpenTransaction, Transaction};
@@ -187,4 +191,28 @@ pub fn lack_effect(transaction: &Transaction, asked: &Asked) -> Effect
         return Effect::Stay;
     };
     refusal_effect(active, Kind::of(statement), &Refusal::OutOfMemory)
+}
+
+/// How many new rows a commit has; the greatest number of 64 bits stands for all above.
+fn commit_rows(commit: &Commit) -> u64
+    ensures { result ≡ cap (new_rows_of commit.now) }
+{
+    match commit {
+        Commit::Create { .. } => 0,
+        Commit::Change { net } => new_rows(net.as_slice()),
+    }
+}
+
+/// How many new rows an effect on a transaction commits; the greatest number of 64 bits stands for all above.
+pub fn effect_rows(transaction: &Transaction, effect: &Effect) -> u64
+    ensures { result ≡ cap (rows_entered (commit_of transaction.now effect.now)) }
+{
+    let Transaction::Open(active) = transaction else {
+        return 0;
+    };
+    match effect {
+        Effect::CommitOwn => new_rows(active.net.as_slice()),
+        Effect::CommitThis(commit) => commit_rows(commit),
+        _ => 0,
+    }
 }

@@ -6,6 +6,8 @@ ghost use Rattle.dk_si.specs.declared.machine.Session.{Session};
 ghost use Rattle.dk_si.specs.Database.{after_all};
 ghost use Rattle.dk_si.specs.LawfulCalls.{is_lawful_call};
 ghost use Rattle.dk_si.specs.Machine.{asks_for, begins_one, is_outside, first_state, next, next_number, session_behind, session_at};
+ghost use Rattle.dk_si.specs.Spent.{committed_rows};
+ghost use Rattle.dk_si.specs.Weight.{cap};
 ghost use Rattle.dk_alone.specs.AnswerHistory.{will_begin, begun_next, iteration_behind, transaction_at};
 ghost use Rattle.dk_plain_engine.specs.Now.{entered};
 ghost use Rattle.dk_plain_engine.specs.Outcomes.{transaction_after, commit_of, commits, is_conflict, call_outcome};
@@ -15,7 +17,7 @@ ghost use Rattle.dk_plain_engine.specs.Still.{state_of, transaction_of};
 ghost use Rattle.dk_plain_engine.specs.Turns.{may_lack};
 
 use crate::answers::{is_spent, outcome};
-use crate::effect::{Behind, Effect, Outcome, carry_out, lack_effect};
+use crate::effect::{Behind, Effect, Outcome, carry_out, effect_rows, lack_effect};
 use crate::now::enter_effect;
 use crate::scene::Scene;
 use dk_plain::database::view;
@@ -39,6 +41,8 @@ pub struct Engine {
     commits: Vec<Commit>,
     /// The tables behind all commits.
     tables: Vec<Table>,
+    /// How many rows stand in them all; the greatest number of 64 bits stands for all above.
+    rows: u64,
     begun: u64,
     sessions: Vec<Session>,
 }
@@ -46,6 +50,8 @@ pub struct Engine {
 impl Model for Engine {
     ghost use Rattle.std.specs.Prelude.{◌≡◌, ◌≤◌, [], length};
     ghost use Rattle.dk_si.specs.Database.{after_all};
+    ghost use Rattle.dk_si.specs.Spent.{committed_rows};
+    ghost use Rattle.dk_si.specs.Weight.{cap};
     ghost use Rattle.dk_si.specs.declared.limits.TheConstants.{SESSIONS, MAX_ITERATION};
     ghost use Rattle.dk_plain_engine.specs.contracts.state.EngineState as state;
     ghost use Rattle.dk_plain_engine.specs.declared.state.EngineState.{EngineState};
@@ -61,7 +67,7 @@ impl Model for Engine {
     } };
 
     ghost invariant = { λ e. (e.iteration ≤ MAX_ITERATION) × (length e.sessions.items ≡ SESSIONS)
-        × (e.tables.items ≡ after_all e.commits.items []) };
+        × ((e.tables.items ≡ after_all e.commits.items []) × (e.rows ≡ cap (committed_rows [] e.commits.items))) };
 }
 
 /// The answer to a call.
@@ -321,6 +327,7 @@ impl Engine {
             iteration: 1,
             commits: commits.into_vec(),
             tables: Vec::new(alloc),
+            rows: 0,
             begun,
             sessions: sessions.into_vec(),
         })
@@ -331,6 +338,7 @@ impl Engine {
         ensures machine { state_of result.log.commits.now result.begun result.sessions.now
             ≡ self.now.machine }
         ensures tables { result.tables.now ≡ after_all result.log.commits.now result.log.opened.now }
+        ensures rows { result.rows ≡ cap (committed_rows result.log.opened.now result.log.commits.now) }
         ensures number { result.number ≡ number }
     {
         let log = CommitLog {
@@ -340,6 +348,7 @@ impl Engine {
         Scene {
             log,
             tables: self.tables.as_slice(),
+            rows: self.rows,
             sessions: self.sessions.as_slice(),
             begun: self.begun,
             number,
@@ -419,19 +428,24 @@ impl Engine {
         if !outcome.effect.commits() {
             return Ok(carry_in_place(&mut self.iteration, &mut self.sessions, number, outcome));
         }
+        let transaction = transaction_of(self.sessions.as_slice(), number);
+        let rows = effect_rows(transaction, &outcome.effect);
         match reserve(
             &mut self.commits,
             &mut self.tables,
-            transaction_of(self.sessions.as_slice(), number),
+            transaction,
             &outcome.effect,
         ) {
-            Ok(()) => Ok(carry_reserved(
-                &mut self.iteration,
-                &mut self.commits,
-                &mut self.sessions,
-                number,
-                outcome,
-            )),
+            Ok(()) => {
+                self.rows = self.rows.saturating_add(rows);
+                Ok(carry_reserved(
+                    &mut self.iteration,
+                    &mut self.commits,
+                    &mut self.sessions,
+                    number,
+                    outcome,
+                ))
+            }
             Err(_) => {
                 discard(outcome);
                 Err(OutOfMemory)

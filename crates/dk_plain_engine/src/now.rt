@@ -2,7 +2,7 @@
 //!
 //! A transaction that has changed nothing so far and sees all commits sees exactly the tables that are kept, so that no
 //! commit is looked at again.
-ghost use Rattle.std.specs.Prelude.{◌≡◌, ◌≤◌, Some, None, [], ◌==◌, ◌&&◌, length, IfOk, OnOk, OnErr};
+ghost use Rattle.std.specs.Prelude.{◌≡◌, ◌++◌, Some, [], length, map, IfOk, OnOk, OnErr};
 ghost use Rattle.dk_si.specs.declared.history.Asked.TheVariants as asked_variants;
 ghost use Rattle.dk_si.specs.Database.{after, after_all, apply, apply_net, apply_part};
 ghost use Rattle.dk_si.specs.Machine.{changed_ids, committed_count, meaning_in, net_after, write_set};
@@ -12,7 +12,7 @@ ghost use Rattle.dk_plain_engine.specs.Now.{entered};
 ghost use Rattle.dk_plain_engine.specs.Outcomes.{commit_of};
 
 use crate::effect::Effect;
-use dk_plain::database::{add_rows, view};
+use dk_plain::database::view;
 use dk_plain::nets::{committed, merged_net, row_count};
 use dk_plain::{CommitLog, Inside};
 use dk_si::database::Table;
@@ -20,8 +20,30 @@ use dk_si::machine::{OpenTransaction, Transaction, WriteSet};
 use dk_si::meaning::Meaning;
 use dk_states::call::{changed_ids, committed_count, statement_meaning};
 use dk_states::meaning::meaning;
-use dk_types::{Commit, List, Net, OutOfMemory, Statement, TableNet, TryCopy};
+use dk_types::{Commit, List, Net, OutOfMemory, Row, Statement, TableNet, TryCopy, Value};
 use std::alloc::Global;
+
+/// A row in just its room, as there may be many.
+fn exact_row(alloc: Global, row: &[Value]) -> Result<Row, OutOfMemory>
+    ensures { IfOk result (λ copied. copied ≡ row.now) }
+{
+    let mut values = Vec::with_capacity(alloc, row.len())?;
+    for value in row {
+        values.push(value.copy()?)?;
+    }
+    Ok(List::from_vec(values))
+}
+
+/// Adds rows at the end, each in just its room.
+fn add_exact(rows: &mut Vec<Option<Row>>, more: &[Row]) -> Result<(), OutOfMemory>
+    ensures { OnOk result (rows.new.items ≡ rows.old.items ++ map Some more.now) }
+{
+    let alloc = *rows.allocator();
+    for row in more {
+        rows.push(Some(exact_row(alloc, row.as_slice())?))?;
+    }
+    Ok(())
+}
 
 /// Adds the new rows of a table.
 fn enter_rows(tables: &mut Vec<Table>, alloc: Global, part: &TableNet) -> Result<(), OutOfMemory>
@@ -34,8 +56,8 @@ fn enter_rows(tables: &mut Vec<Table>, alloc: Global, part: &TableNet) -> Result
     if place >= tables.len() {
         return Ok(());
     }
-    let mut rows = Vec::new(alloc);
-    add_rows(&mut rows, part.rows.to_list(alloc)?.as_slice())?;
+    let mut rows = Vec::with_capacity(alloc, part.rows.len())?;
+    add_exact(&mut rows, part.rows.to_list(alloc)?.as_slice())?;
     tables[place].rows.append(List::from_vec(rows))
 }
 

@@ -39,9 +39,3 @@ end_popped old new None b pops = tt
 end_popped old new (Some text) None pops = absurd pops
 end_popped old new (Some text) (Some rest) pops =
     (pops.0, rest_nil new.held rest (no_lines (new.held ++ rest) new.begun pops.1).1)
-
--- it had come there before
-pub end_before : (reading : ReaderState) (a : Option (List ℕ)) → IsReadOut reading a
-    → IfBothKnown (lines_left reading a) a (λ lines rest. (lines ≡ []) × (rest ≡ []))
-end_before reading None out = tt
-end_before reading (Some text) out = (rw (out.begun, out.held, out.source) refl, out.source)

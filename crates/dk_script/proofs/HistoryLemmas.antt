@@ -16,11 +16,6 @@ use Rattle.dk_script.specs.RunnerCalls.{Start, exchange, state_replied}
 use Rattle.dk_script.specs.Texts.{session_text}
 use Rattle.dk_script.specs.declared.trouble.Trouble.{Trouble}
 
-pub state_append : (front more : List Entry) (machine : Machine)
-    → state_after [] machine (front ++ more) ≡ state_after [] (state_after [] machine front) more
-state_append [] more machine = refl
-state_append (entry ∷ front) more machine = state_append front more (next [] machine entry)
-
 pub text_append : (front more : List Entry) (machine : Machine)
     → history_text machine (front ++ more)
     ≡ history_text machine front ++ history_text (state_after [] machine front) more

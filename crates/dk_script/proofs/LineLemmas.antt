@@ -113,32 +113,6 @@ pub asks_is_good : (line : List ℕ) (session : ℕ) (text : List ℕ) → lengt
     → request_of line ≡ Some (session, text) → is_good (Some line) ≡ true
 asks_is_good line session text short asks = ap is_some (short_is line (Some (session, text)) short asks)
 
--- a line that asks nothing is bad
-pub bad_line : (line : List ℕ) → length line ≤ MAX_LINE → request_of line ≡ None → is_good (Some line) ≡ false
-bad_line line short asks = ap is_some (short_is line None short asks)
-
--- a line that is passed over asks nothing
-pub answers_passed : {R : Type 0} (stands : R → List Entry → Type 0) (run next : Run R) (old : Option (List ℕ))
-    → next.runner ≡ run.runner → next.trouble ≡ run.trouble → AnswersLine stands run next old old None
-answers_passed stands run next old same told = record {
-  good = refl;
-  goes = λ entries before. record {
-    more = [];
-    stood = subst (stands next.runner) (sym (append-nil entries))
-        (subst (λ r. stands r entries) (sym same) before);
-    read = tt;
-    taken = Appends-nil old;
-    trouble = told;
-  };
-}
-
--- a line past the limit is bad
-pub too_long_bad : (a : Option (List Line)) → BeginsTooLong MAX_LINE a → IfSome a BeginsBad
-too_long_bad None long = tt
-too_long_bad (Some []) long = long
-too_long_bad (Some (None ∷ lines)) long = absurd long
-too_long_bad (Some (Some line ∷ lines)) long = ap is_some (long_is line long)
-
 -- a line that was read, and is bad
 pub read_bad : (a b : Option (List Line)) (line : List ℕ) → Pops a (Some (Some line)) b → is_good (Some line) ≡ false
     → IfSome a BeginsBad
@@ -208,12 +182,3 @@ line_stops stands OutOfMemory run mid next a b old new same counted pops stops =
     front_read stands run next (lines_left run.reader a) (lines_left mid.reader b) mid.reader.line old new pops stops.0
     (λ entries before. stops.1 entries (subst (λ r. stands r entries) (sym same) before))
 line_stops stands status run mid next a b old new same counted pops stops = absurd stops
-
--- and has its cause
-pub line_cause : {R : Type 0} (stands : R → List Entry → Type 0) (status : Status) (run next : Run R)
-    (old new : Option (List ℕ)) (usage read write : Type 0) → StopsLine stands run next old new status
-    → (status ≡ WriteFault → write) → HasCauseIn usage read write status
-line_cause stands (BadLine line) run next old new usage read write stops fault = tt
-line_cause stands WriteFault run next old new usage read write stops fault = fault refl
-line_cause stands OutOfMemory run next old new usage read write stops fault = tt
-line_cause stands status run next old new usage read write stops fault = absurd stops

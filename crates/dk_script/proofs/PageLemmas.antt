@@ -7,47 +7,6 @@ use Rattle.std.specs.Io.KnownBytes.{Appends}
 use Rattle.dk_io.specs.Sinks.{TakesFront}
 use Rattle.dk_script.specs.Paging.{Paged}
 
-pub leaves_start : (old : Option (List ℕ)) (page rest : List ℕ) → Paged old old page rest (page ++ rest)
-leaves_start old page rest = record { sent = []; taken = Appends-nil old; whole = refl }
-
--- more of the rest is on the page
-pub leaves_put : (old new : Option (List ℕ)) (page page' text rest all : List ℕ) → page' ≡ page ++ text
-    → Paged old new page (text ++ rest) all → Paged old new page' rest all
-leaves_put old new page page' text rest all put leaves =
-    record {
-      sent = leaves.sent;
-      taken = leaves.taken;
-      whole =
-          leaves.whole ∙ ap (λ xs. leaves.sent ++ xs)
-          (sym (append_assoc page text rest) ∙ ap (λ xs. xs ++ rest) (sym put));
-    }
-
--- the page goes out
-pub leaves_send : (old mid new : Option (List ℕ)) (page rest all : List ℕ) → Appends mid new page
-    → Paged old mid page rest all → Paged old new [] rest all
-leaves_send old mid new page rest all sent leaves =
-    record {
-      sent = leaves.sent ++ page;
-      taken = Appends-trans old mid new leaves.sent page leaves.taken sent;
-      whole =
-          leaves.whole ∙ sym (append_assoc leaves.sent page rest);
-    }
-
-pub leaves_end : (old new : Option (List ℕ)) (all : List ℕ) → Paged old new [] [] all → Appends old new all
-leaves_end old new all leaves = subst (Appends old new) (sym (leaves.whole ∙ append-nil leaves.sent)) leaves.taken
-
--- what the sink took so far is a front of the whole text
-pub leaves_here : (old new : Option (List ℕ)) (page rest all : List ℕ) → Paged old new page rest all
-    → TakesFront old new all
-leaves_here old new page rest all leaves =
-    let sent = leaves.sent in
-    let long : length sent ≤ length (sent ++ (page ++ rest)) = simp length-append (omega arith) in (
-      length sent,
-      subst (λ (xs : List ℕ). length sent ≤ length xs) (sym leaves.whole) long,
-      subst (Appends old new) (sym (ap (take (length sent)) leaves.whole ∙ take-append_seam sent (page ++ rest)))
-          leaves.taken,
-    )
-
 -- a front of the page went out
 pub leaves_front : (old mid new : Option (List ℕ)) (page rest all : List ℕ) → TakesFront mid new page
     → Paged old mid page rest all → TakesFront old new all

@@ -376,8 +376,3 @@ replies_none old (Some script) = record {
 pub none_too_long : (a : Option (List ℕ)) → IfBothKnown a a (IsTooLongScript OutOfMemory)
 none_too_long None = tt
 none_too_long (Some script) = (λ e. absurd (cc e), λ (h : MAX_SCRIPT + length script < length script). absurd (omega (arith, h)))
-
--- wrong words
-pub replies_unread : (old a : Option (List ℕ)) → IfBothKnown a a (λ script rest. Replies (Err Usage) script rest old old)
-replies_unread old None = tt
-replies_unread old (Some script) = record { text = []; due = (refl, refl); sent = Appends-nil old }

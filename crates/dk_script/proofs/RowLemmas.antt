@@ -42,11 +42,6 @@ row_put out put all rows i row e is so_far =
     ∙ (append_assoc out (row_text row) (rows_text (drop (i + 1) rows))
     ∙ (ap (λ xs. out ++ xs) (sym (next_row rows i row is)) ∙ so_far))
 
--- a row that has a first value
-pub row_text_first : (row : List Value) (v : Value) → slice_get row 0 ≡ Some v
-    → row_text row ≡ value_text v ++ more_values (drop 1 row) ++ codes "\n"
-row_text_first row v is = ap row_text (drop_next row 0 v is)
-
 -- a fact for an error, whatever was returned
 pub on_err_from : {T E P : Type 0} (r : Result T E) → P → OnErr r P
 on_err_from (Ok v) p = tt

@@ -1,87 +1,23 @@
 -- No text tells the moment of a receipt.
-use Rattle.std.proofs.Common.{◌≡◌, ℕ, List, [], ◌∷◌, ◌++◌, map, Option, Some, None, refl, ap, ◌∙◌}
-use Rattle.std.specs.Prelude.{codes, decimal, option_map, unwrap_or}
-use Rattle.dk_types.specs.declared.net.TableNet.{TableNet}
-use Rattle.dk_types.specs.declared.reply.Receipt.{Receipt}
+use Rattle.std.proofs.Common.{◌≡◌, ℕ, List, [], ◌∷◌, ◌++◌, map, refl, ap, ◌∙◌}
+use Rattle.std.specs.Prelude.{codes, decimal, unwrap_or}
 use Rattle.dk_types.specs.declared.reply.Reply.{Reply}
 use Rattle.dk_types.specs.declared.reply.Reply.TheVariants as reply
 use Rattle.dk_si.specs.declared.database.Table.{Table}
-use Rattle.dk_si.specs.declared.history.Asked.{Asked}
 use Rattle.dk_si.specs.declared.history.Entry.{Entry}
 use Rattle.dk_si.specs.declared.history.Entry.TheVariants as entry
 use Rattle.dk_si.specs.declared.machine.Machine.{Machine}
-use Rattle.dk_si.specs.declared.machine.OpenTransaction.{OpenTransaction}
-use Rattle.dk_si.specs.declared.machine.Session.{Session}
-use Rattle.dk_si.specs.declared.machine.Transaction.{Transaction}
-use Rattle.dk_si.specs.declared.machine.Transaction.TheVariants as transaction
-use Rattle.dk_si.specs.Answer.{timeless, timeless_receipt}
-use Rattle.dk_si.specs.Machine.{after_aborted, after_open_reply, change_transition, net_behind, next, session_at, session_behind, transition, with_session}
+use Rattle.dk_si.specs.Answer.{timeless}
+use Rattle.dk_si.specs.Machine.{next}
 use Rattle.dk_alone.specs.AnswerHistory.{timeless_entry, transaction_at}
 use Rattle.dk_script.specs.Histories.{tables_in, reply_name, entry_text, history_text}
 use Rattle.dk_script.specs.Texts.{session_text, reply_text}
+use Rattle.dk_alone.proofs.OnlyAnswerLemmas.{next_timeless}
 
-change_timeless : (active : OpenTransaction) (asked : Option Asked) (net : List TableNet) (receipt : Option Receipt)
-    → change_transition active asked net (option_map timeless_receipt receipt)
-    ≡ change_transition active asked net receipt
-change_timeless active asked net None = refl
-change_timeless active asked net (Some receipt) = refl
-
-transition_timeless : (machine : Machine) (active : OpenTransaction) (asked : Option Asked) (told : Reply)
-    → transition [] machine.commits active asked (timeless told) ≡ transition [] machine.commits active asked told
-transition_timeless machine active asked (reply.Created receipt) = refl
-transition_timeless machine active asked (reply.Changed count receipt) =
-    change_timeless active asked (net_behind [] machine.commits active asked) receipt
-transition_timeless machine active asked (reply.Rows rows) = refl
-transition_timeless machine active asked (reply.Begun start) = refl
-transition_timeless machine active asked (reply.Committed receipt) = refl
-transition_timeless machine active asked reply.Ended = refl
-transition_timeless machine active asked (reply.Checkpointed iteration) = refl
-transition_timeless machine active asked (reply.Refused refusal) = refl
-
-aborted_timeless : (told : Reply) → after_aborted (timeless told) ≡ after_aborted told
-aborted_timeless (reply.Created receipt) = refl
-aborted_timeless (reply.Changed count receipt) = refl
-aborted_timeless (reply.Rows rows) = refl
-aborted_timeless (reply.Begun start) = refl
-aborted_timeless (reply.Committed receipt) = refl
-aborted_timeless reply.Ended = refl
-aborted_timeless (reply.Checkpointed iteration) = refl
-aborted_timeless (reply.Refused refusal) = refl
-
--- what a reply makes of a session that is in this transaction
-abbrev after_in : Machine → ℕ → Session → Reply → Transaction → Machine
-after_in machine number session told within = elim within [
-  | transaction.Outside ↦ with_session machine number (session_behind transaction.Outside None None)
-  | transaction.Aborted ↦ with_session machine number (session_behind (after_aborted told) None None)
-  | transaction.Open active ↦ after_open_reply [] machine number session active
-      (transition [] machine.commits active session.asked told)
-]
-
-after_timeless : (machine : Machine) (number : ℕ) (session : Session) (told : Reply) (within : Transaction)
-    → after_in machine number session (timeless told) within ≡ after_in machine number session told within
-after_timeless machine number session told transaction.Outside = refl
-after_timeless machine number session told transaction.Aborted =
-    ap (λ t. with_session machine number (session_behind t None None)) (aborted_timeless told)
-after_timeless machine number session told (transaction.Open active) =
-    ap (after_open_reply [] machine number session active) (transition_timeless machine active session.asked told)
-
-found_timeless : (machine : Machine) (number : ℕ) (told : Reply) (found : Option Session)
-    → elim found as (λ x. Machine) [
-      | None ↦ machine
-      | Some before ↦ after_in machine number before (timeless told) before.transaction
-    ]
-    ≡ elim found as (λ x. Machine) [
-      | None ↦ machine
-      | Some before ↦ after_in machine number before told before.transaction
-    ]
-found_timeless machine number told None = refl
-found_timeless machine number told (Some before) = after_timeless machine number before told before.transaction
-
-next_timeless : (machine : Machine) (one : Entry) → next [] machine (timeless_entry one) ≡ next [] machine one
-next_timeless machine (entry.Call session asked) = refl
-next_timeless machine (entry.Begun session number start) = refl
-next_timeless machine (entry.Reply session told) =
-    found_timeless machine session told (session_at machine.sessions session)
+one_timeless : (machine : Machine) (one : Entry) → next [] machine (timeless_entry one) ≡ next [] machine one
+one_timeless machine (entry.Call session asked) = refl
+one_timeless machine (entry.Begun session number start) = refl
+one_timeless machine (entry.Reply session told) = next_timeless [] machine session told
 
 name_timeless : (tables : List Table) (told : Reply) → reply_name tables (timeless told) ≡ reply_name tables told
 name_timeless tables (reply.Created receipt) = refl
@@ -120,5 +56,5 @@ history_timeless [] machine = refl
 history_timeless (one ∷ entries) machine =
     ap (λ xs. xs ++ history_text (next [] machine (timeless_entry one)) (map timeless_entry entries))
     (entry_timeless machine one)
-    ∙ (ap (λ m. entry_text machine one ++ history_text m (map timeless_entry entries)) (next_timeless machine one)
+    ∙ (ap (λ m. entry_text machine one ++ history_text m (map timeless_entry entries)) (one_timeless machine one)
     ∙ ap (λ xs. entry_text machine one ++ xs) (history_timeless entries (next [] machine one)))

@@ -2,12 +2,10 @@
 use Rattle.std.proofs.Common.{◌≡◌, ⊎_elim, ℕ, zero, suc, ◌+◌, ◌-◌, ◌*◌, ◌<◌, ◌≤◌, Bool, true, false, List, [], ◌∷◌}
 use Rattle.std.proofs.Common.{◌++◌, length, Some, None, ap, ◌∙◌, sym, refl, subst, arith, slice_get}
 use Rattle.std.specs.Prelude.{◌&&◌, ◌||◌, not, is_none, is_some, ◌==◌, nat_lt, nat_le, if◌then◌else◌}
-use Rattle.std.specs.List.{list_all, filter}
+use Rattle.std.specs.List.{filter}
 use Rattle.std.proofs.lemmas.Bool.{false≢true, and_from, and_parts, or_left, or_right, or_cases, or_parts, eq-eqb}
 use Rattle.std.proofs.lemmas.Bool.{eqb-false, ne_eqb, lt-ltb, ltb-true, leb-true, not-true, not-false}
-use Rattle.dk_types.specs.declared.reply.Refusal.TheVariants as why
 use Rattle.dk_types.specs.declared.reply.Reply.{Reply}
-use Rattle.dk_types.specs.declared.reply.Reply.TheVariants as told
 use Rattle.dk_si.specs.declared.database.Table.{Table}
 use Rattle.dk_si.specs.declared.history.Asked.{Asked}
 use Rattle.dk_si.specs.declared.history.Entry.{Entry}
@@ -17,8 +15,7 @@ use Rattle.dk_si.specs.declared.machine.Machine.{Machine}
 use Rattle.dk_si.specs.declared.machine.Session.{Session}
 use Rattle.dk_si.specs.declared.machine.Transaction.{Transaction}
 use Rattle.dk_si.specs.declared.machine.Transaction.TheVariants as state
-use Rattle.dk_si.specs.Answer.{answer}
-use Rattle.dk_alone.specs.AnswerHistory.{is_call, iteration_behind, transaction_at, begun_next}
+use Rattle.dk_alone.specs.AnswerHistory.{is_call, iteration_behind, iteration_and, iteration_after, transaction_at, begun_next}
 use Rattle.dk_si.specs.IsStep.{is_step, is_founded, may_begin, may_call, may_reply, if_there}
 use Rattle.dk_si.specs.LawfulCalls.{is_lawful_call}
 use Rattle.dk_si.specs.Laws.{state_after}
@@ -32,19 +29,16 @@ use Rattle.dk_si.specs.StatesSince.{was_since_call, is_call_of}
 use Rattle.dk_si.specs.Weight.{cap}
 use Rattle.dk_si.specs.ReplyTests.{is_stop}
 use Rattle.dk_alone.proofs.AnswerLemmas.{follows}
-use Rattle.dk_alone.proofs.AnswerFitLemmas.{Fits, Spent, answer_fits, below_most, spent_numbers}
+use Rattle.dk_alone.proofs.AnswerFitLemmas.{Spent, below_most, spent_numbers}
 use Rattle.dk_si.proofs.ShortSizeLemmas.{length_filter}
 use Rattle.dk_alone.proofs.FlightLemmas.{Busy, Idle, all_others, begun_in, busy_begun, busy_reply, called, idle_call}
 use Rattle.dk_alone.proofs.FlightLemmas.{idle_there}
 use Rattle.dk_si.proofs.ForwardLemmas.{since_and_one}
-use Rattle.dk_si.proofs.FreshLemmas.{sees}
 use Rattle.dk_alone.proofs.IterationLemmas.{Calm, Counts, busy_counts, counts_begun, counts_call, first_counts, goes_on}
 use Rattle.dk_si.proofs.PlaceLemmas.{found_at}
 use Rattle.dk_si.proofs.TransitionLemmas.{session_of}
 use Rattle.dk_alone.proofs.WalkLemmas.{Bounded, Line, first_bounded, first_line, goes, line_next, next_bounded}
-use Rattle.dk_alone.proofs.WalkLemmas.{walk_is_legal, walks}
-use Rattle.dk_plain_engine.specs.Turns.{may_lack}
-use Rattle.dk_plain_engine.proofs.LackLemmas.{lack_passes}
+use Rattle.dk_si.specs.Exchanges.{reply_from}
 
 -- between two calls
 pub record Ready (opened : List Table) (it last : ℕ) (before : List Entry) (machine : Machine)
@@ -215,7 +209,7 @@ outside_closed state.Outside e = refl
 outside_closed state.Aborted e = refl
 outside_closed (state.Open active) e = absurd (false≢true e)
 
-pub spent_for_all : (opened : List Table) (machine : Machine) (number : ℕ) (session : Session) → Bounded machine
+spent_for_all : (opened : List Table) (machine : Machine) (number : ℕ) (session : Session) → Bounded machine
     → session_at machine.sessions number ≡ Some session
     → is_outside session.transaction ≡ true → is_spent_alone opened machine ≡ true
     → (machine.begun == MAX_TRANSACTIONS || nat_lt MAX_ROWS (committed_rows opened machine.commits + SPARE_ROWS)) ≡ true
@@ -232,15 +226,15 @@ spent_for_all opened machine number session bounded is outside spent =
     (ltb-true MAX_ROWS (rows + OPEN_ROWS * (open_count machine + 1)) more))))
     (or_cases (machine.begun == MAX_TRANSACTIONS) (nat_lt MAX_ROWS (rows + OPEN_ROWS * (open_count machine + 1))) spent)
 
--- what a reply of one thread must be of
-record Suits (opened : List Table) (last : ℕ) (before : List Entry) (machine : Machine) (number : ℕ) (session : Session)
+-- what a reply on one thread must be
+pub record Suits (opened : List Table) (last : ℕ) (before : List Entry) (machine : Machine) (number : ℕ) (session : Session)
     (asked : Asked) (reply : Reply) : Type 0 where
-  passes : may_answer opened machine.commits session.transaction asked reply ≡ true
-  founded : is_founded opened number before machine
+  pub passes : may_answer opened machine.commits session.transaction asked reply ≡ true
+  pub founded : is_founded opened number before machine
       (session_of session.transaction (Some asked) session.writes session.last) reply ≡ true
-  alone : may_reply_alone opened machine number session.transaction (Some asked) reply ≡ true
-  calm : is_stop reply ≡ false
-  next : follows last reply ≡ true
+  pub alone : may_reply_alone opened machine number session.transaction (Some asked) reply ≡ true
+  pub calm : is_stop reply ≡ false
+  pub next : follows last reply ≡ true
 
 -- the reply may come, and behind it no call is in flight
 pub record Answered (opened : List Table) (it last : ℕ) (before : List Entry) (machine : Machine) (standing : FullStanding)
@@ -250,7 +244,7 @@ pub record Answered (opened : List Table) (it last : ℕ) (before : List Entry) 
       (next opened machine (history.Reply number reply))
       (standing_and it standing (history.Reply number reply))
 
-suits_goes : (opened : List Table) (it last : ℕ) (before : List Entry) (machine : Machine) (standing : FullStanding)
+pub suits_goes : (opened : List Table) (it last : ℕ) (before : List Entry) (machine : Machine) (standing : FullStanding)
     (number : ℕ) (session : Session) (asked : Asked) (reply : Reply)
     → Wait opened it last before machine standing number session asked
     → Suits opened last before machine number session asked reply
@@ -286,35 +280,51 @@ suits_goes opened it last before machine standing number session asked reply wai
       };
     }
 
--- the machine's answer
-pub answer_goes : (opened : List Table) (it last : ℕ) (before : List Entry) (machine : Machine) (standing : FullStanding)
+-- where a call asks to begin a transaction and none begins, none could since the call
+pub spent_since : (opened : List Table) (it last : ℕ) (before : List Entry) (machine : Machine) (standing : FullStanding)
     (number : ℕ) (session : Session) (asked : Asked)
     → Wait opened it last before machine standing number session asked
+    → ((asks_for begins_one (Some asked) && is_outside session.transaction) && not (is_spent_alone opened machine)) ≡ false
     → Spent opened last before machine number session.writes session.last (asks_for begins_one (Some asked)
     && is_outside session.transaction)
-    → Answered opened it last before machine standing number (answer opened last machine number session.transaction asked)
-answer_goes opened it last before machine standing number session asked wait spent =
-    let fits = answer_fits opened last before machine number session.writes session.last session.transaction asked
-    (record { there = asked_session machine standing number session asked wait.place wait.busy; was = wait.was })
-    spent wait.counts.within
-    (sees machine.commits session.transaction session.asked (wait.line.now (number - 1) session
-    (found_at machine.sessions number session wait.busy.is).0)) in
-    suits_goes opened it last before machine standing number session asked
-    (answer opened last machine number session.transaction asked) wait
-    (record { passes = fits.passes; founded = fits.founded; alone = fits.alone; calm = fits.calm; next = fits.next })
+spent_since opened it last before machine standing number session asked wait begins asks =
+    let rows = committed_rows opened machine.commits in
+    let spent = not-false (is_spent_alone opened machine) (subst (λ b. (b && not (is_spent_alone opened machine))
+    ≡ false) asks begins) in
+    let outside = (and_parts (asks_for begins_one (Some asked)) (is_outside session.transaction) asks).1 in (
+      spent,
+      wait.was (is_spent opened (spent_numbers opened last before machine number session.writes session.last))
+          (and_from (machine.begun == MAX_TRANSACTIONS || nat_lt MAX_ROWS (rows + SPARE_ROWS))
+          (true && (machine.begun == machine.begun && cap rows == cap rows))
+          (spent_for_all opened machine number session wait.bounded wait.busy.is outside spent)
+          (and_from (machine.begun == machine.begun) (cap rows == cap rows) (eq-eqb machine.begun machine.begun refl)
+          (eq-eqb (cap rows) (cap rows) refl))),
+    )
 
--- want of memory
-pub lack_goes : (opened : List Table) (it last : ℕ) (before : List Entry) (machine : Machine) (standing : FullStanding)
-    (number : ℕ) (session : Session) (asked : Asked)
-    → Wait opened it last before machine standing number session asked
-    → may_lack session.transaction asked ≡ true
-    → Answered opened it last before machine standing number (told.Refused why.OutOfMemory)
-lack_goes opened it last before machine standing number session asked wait may =
-    suits_goes opened it last before machine standing number session asked (told.Refused why.OutOfMemory) wait
-    (record {
-      passes = lack_passes opened machine.commits session.transaction asked may;
-      founded = refl;
-      alone = refl;
-      calm = refl;
-      next = refl;
-    })
+pub found_transaction : (machine : Machine) (number : ℕ) (session : Session) → session_at machine.sessions number
+    ≡ Some session
+    → transaction_at machine number ≡ session.transaction
+found_transaction machine number session is =
+    ap (λ found. elim found as (λ x. Transaction) [ None ↦ state.Outside | Some session ↦ session.transaction ]) is
+
+pub first_ready : (opened : List Table) (it : ℕ) → it ≤ MAX_ITERATION → Ready opened it it [] first_state first_standing
+first_ready opened it within = record {
+  line = first_line opened;
+  bounded = first_bounded;
+  idle = record { all = refl; flights = refl };
+  counts = first_counts it within;
+  calm = record { stop = refl; needs = refl };
+}
+
+-- a reply behind its call
+pub answered_one : (number at : ℕ) (reply : Reply) (entries : List Entry)
+    → is_some (reply_from number at (history.Reply number reply ∷ entries)) ≡ true
+answered_one number at reply entries =
+    ap (λ (b : Bool). is_some (if b then Some (record { place = at; reply = reply }) else reply_from number
+    (at + 1) entries)) (eq-eqb number number refl)
+
+-- the iteration behind two lists of entries
+pub iteration_both : (last : ℕ) (xs ys : List Entry)
+    → iteration_after last (xs ++ ys) ≡ iteration_after (iteration_after last xs) ys
+iteration_both last [] ys = refl
+iteration_both last (x ∷ xs) ys = iteration_both (iteration_and last x) xs ys
