@@ -1,6 +1,6 @@
-//! Truth tables, and the ends of 64 bits.
-use crate::{EvalError, eval};
-use dk_syntax::{Boxed, Op};
+//! Truth tables, the ends of 64 bits, and aggregates.
+use crate::{Accumulator, EvalError, eval};
+use dk_syntax::{Boxed, FoldKind, Op};
 use dk_types::BoundExpr;
 use dk_values::{List, OutOfMemory, Row, Value};
 use std::alloc::Global;
@@ -104,5 +104,41 @@ fn products_have_the_range_of_64_bits(rt: HostRuntime) -> Result<(), Fail> {
     assert!(rt; gives(alloc, Op::Mul, 1 << 32, 1 << 31, None));
     assert!(rt; gives(alloc, Op::Mul, 1 << 32, -(1 << 31), Some(i64::MIN)));
     assert!(rt; gives(alloc, Op::Mul, i64::MIN, -1, None));
+    Ok(())
+}
+
+/// An aggregate over three values.
+fn over(
+    kind: FoldKind,
+    first: &Value,
+    second: &Value,
+    third: &Value,
+) -> Result<Value, OutOfMemory> {
+    let mut taken = Accumulator::new(kind);
+    taken.push(first)?;
+    taken.push(second)?;
+    taken.push(third)?;
+    Ok(taken.finish())
+}
+
+#[test]
+fn sums_have_128_bits(rt: HostRuntime) -> Result<(), Fail> {
+    let most = Value::Big(i64::MAX);
+    let sum = over(FoldKind::Sum, &most, &Value::Null, &most)?;
+    assert_eq!(rt; sum, Value::Huge(18_446_744_073_709_551_614));
+    let none = over(FoldKind::Sum, &Value::Null, &Value::Null, &Value::Null)?;
+    assert_eq!(rt; none, Value::Null);
+    Ok(())
+}
+
+#[test]
+fn null_is_passed_over(rt: HostRuntime) -> Result<(), Fail> {
+    let (no, yes) = (Value::Bool(false), Value::Bool(true));
+    assert_eq!(rt;
+        over(FoldKind::Count, &Value::Null, &no, &yes)?,
+        Value::Big(2)
+    );
+    assert_eq!(rt; over(FoldKind::Min, &Value::Null, &yes, &no)?, no);
+    assert_eq!(rt; over(FoldKind::Max, &no, &yes, &Value::Null)?, yes);
     Ok(())
 }
