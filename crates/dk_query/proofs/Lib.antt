@@ -1,0 +1,4 @@
+pub mod SortLemmas
+pub mod OrderLemmas
+pub mod LimitLemmas
+pub mod GroupLemmas

@@ -1,0 +1,6 @@
+pub mod Sorted
+pub mod Order
+pub mod Kept
+pub mod Groups
+pub mod Selected
+pub mod Laws
