@@ -6,8 +6,10 @@
 //! so far, as they do after events that were allowed. The parts, in the order of reading: what is borrowed (`scene`),
 //! where rows stand (`places`), which rows a Change may have (`changes`), what a reply asks of the events before it
 //! (`replies`), how a commit goes (`commits`), whether stops and iterations stand well with the event's entry (`stands`),
-//! and what the rules of the other events ask (`rules`). The crate stands on `dk_core`, on `dk_slow_seats`, which has the seats and groups of a core, and on
-//! `dk_legal` and those below, which compute what the machine's definitions say.
+//! and what calls, begins, replies, stamps, undos and ends ask, and that nobody else places rows or creates a table
+//! (`rules`). The rest of a Change's rule, those of Drop and Settle, and what joins them all are to follow. The crate
+//! stands on `dk_core`, on `dk_slow_seats`, which has the seats and groups of a core, and on `dk_legal` and those below,
+//! which compute what the machine's definitions say.
 #![tactic(auto)]
 
 pub mod changes;
