@@ -3,6 +3,7 @@ use Rattle.std.proofs.Common.{ℕ, zero, suc, [], ◌∷◌, map, ◌≡◌, ◌
 use Rattle.std.specs.Prelude.{Result, Ok, Err, OnOk, OnErr, IfErr}
 use Rattle.std.specs.Prelude.{not, ◌==◌, slice_get}
 use Rattle.std.proofs.lemmas.Bool.{cases_lt, eqb-true, eqb-false, false≢true, and_parts}
+use Rattle.std.proofs.lemmas.Bool.Decides.{Decides-eqb}
 use Rattle.std.proofs.lemmas.List.{get_or-set_other}
 use Rattle.std.proofs.lemmas.Grind.{get_or-set_at}
 use Rattle.std.proofs.lemmas.Option.{slice_get-get_or, slice_get_past, slice_get_within}
@@ -12,9 +13,10 @@ use Rattle.dk_columns.specs.OptionTables.{OptionTable}
 use Rattle.dk_version.specs.Rows.{VectorStamps}
 use Rattle.dk_stamp.specs.declared.error.GroupError.{GroupError}
 use Rattle.dk_vector.specs.declared.vector.Blocked.{Blocked}
+use Rattle.dk_chain.specs.declared.node.Node.{Node}
 use Rattle.dk_vector.specs.Stacks.{Stack}
-use Rattle.dk_vector.specs.Vectors.{VectorRows, stack_at, AreThere, ArePlaced}
-use Rattle.dk_group.specs.Groups.{GroupRows, IsStep, IsChangedAt, IsRefusal, IsError, Shape, shape_of, stack_in, stack_if_there, error_of, told}
+use Rattle.dk_vector.specs.Vectors.{VectorRows, stack_at, AreThere, ArePlaced, IsOnTop}
+use Rattle.dk_group.specs.Groups.{GroupRows, IsStep, IsChangedAt, IsApartAt, IsTopAt, TopsStay, IsRefusal, IsError, Shape, shape_of, stack_in, stack_if_there, error_of, told}
 use Rattle.dk_group.specs.declared.edits.Refusal.{Refusal}
 
 -- the vector at a place that was set
@@ -42,13 +44,25 @@ set_shapes (v ∷ vectors) zero old new is e = ap (λ s. s ∷ map shape_of vect
     some_is a b e = ap (λ o. elim o as (λ x. VectorRows) [ None ↦ a | Some c ↦ c ]) e
 set_shapes (v ∷ vectors) (suc at) old new is e = ap (λ l. shape_of v ∷ l) (set_shapes vectors at old new is e)
 
+-- what is so of a vector before and after its change is so of each vector
+each_at : (P : Option VectorRows → Type 0) (at : ℕ) (group new : GroupRows) (old vector : VectorRows) → slice_get group.vectors at ≡ Some old → new.vectors ≡ set group.vectors at vector
+    → (P (Some old) → P (Some vector)) → (v : ℕ) → P (slice_get group.vectors v) → P (slice_get new.vectors v)
+each_at P at group new old vector is e step v h =
+    subst P (sym (ap (λ (l : List VectorRows). slice_get l v) e ∙ set_at group.vectors at v vector (slice_get_within group.vectors at old is))) (so (v == at) refl)
+  where
+    so : (b : Bool) → (v == at) ≡ b → P (cond b (Some vector) (slice_get group.vectors v))
+    so true here = step (subst P (ap (slice_get group.vectors) (eqb-true v at here) ∙ is) h)
+    so false here = h
+
 pub changed_at : (at : ℕ) (step : ℕ → Stack → Stack) (group new : GroupRows) (old vector : VectorRows) → slice_get group.vectors at ≡ Some old
-    → new.first ≡ group.first → new.vectors ≡ set group.vectors at vector → IsStep step old vector → IsChangedAt at step group new
-changed_at at step group new old vector is start e each = record {
+    → new.first ≡ group.first → new.settled ≡ group.settled → new.vectors ≡ set group.vectors at vector → IsStep step old vector → IsChangedAt at step group new
+changed_at at step group new old vector is start page e each = record {
   start = start;
+  page = page;
   shapes_stay = ap (map shape_of) e ∙ set_shapes group.vectors at old vector is each.shape;
   rows = λ v row. ap (λ (l : List VectorRows). stack_if_there (slice_get l v) row) e
       ∙ ap (λ o. stack_if_there o row) (set_at group.vectors at v vector (slice_get_within group.vectors at old is)) ∙ so v row (v == at) refl;
+  apart = each_at IsApartAt at group new old vector is e each.apart;
 }
   where
     so : (v row : ℕ) (b : Bool) → (v == at) ≡ b → stack_if_there (cond b (Some vector) (slice_get group.vectors v)) row ≡ cond b (step row (stack_in group v row)) (stack_in group v row)
@@ -68,17 +82,33 @@ placed_same rows old new count each placed = λ i d within.
     (subst (λ (n : ℕ). get_or rows i d < n) (sym count) h.0, λ none. h.1 (ap (λ (s : Stack). s.inserted) (sym (each (get_or rows i d))) ∙ none))
 
 -- one vector of a group in its view
-pub old_is : (at start : ℕ) (vectors : List VectorRows) (old : VectorRows) (group : GroupRows) → record { first = start; vectors = vectors } ≡ group → at < length group.vectors
+pub old_is : (at start : ℕ) (page : Option ℕ) (vectors : List VectorRows) (old : VectorRows) (group : GroupRows) → record { first = start; vectors = vectors; settled = page } ≡ group → at < length group.vectors
     → old ≡ get_or vectors at old → slice_get group.vectors at ≡ Some old
-old_is at start vectors old group view within value =
+old_is at start page vectors old group view within value =
     subst (λ (g : GroupRows). at < length g.vectors → slice_get g.vectors at ≡ Some old) view
     (λ within. slice_get-get_or vectors at old within ∙ ap (λ (v : VectorRows). Some v) (sym value)) within
 
-pub at_view : (at : ℕ) (step : ℕ → Stack → Stack) (start : ℕ) (vectors : List VectorRows) (old vector : VectorRows) (group : GroupRows) → record { first = start; vectors = vectors } ≡ group
-    → at < length group.vectors → old ≡ get_or vectors at old → IsStep step old vector → IsChangedAt at step group (record { first = start; vectors = set vectors at vector })
-at_view at step start vectors old vector group view within value each =
-    changed_at at step group (record { first = start; vectors = set vectors at vector }) old vector (old_is at start vectors old group view within value)
-    (ap (λ (g : GroupRows). g.first) view) (ap (λ (g : GroupRows). set g.vectors at vector) view) each
+pub at_view : (at : ℕ) (step : ℕ → Stack → Stack) (start : ℕ) (page : Option ℕ) (vectors : List VectorRows) (old vector : VectorRows) (group : GroupRows) → record { first = start; vectors = vectors; settled = page } ≡ group
+    → at < length group.vectors → old ≡ get_or vectors at old → IsStep step old vector → IsChangedAt at step group (record { first = start; vectors = set vectors at vector; settled = page })
+at_view at step start page vectors old vector group view within value each =
+    changed_at at step group (record { first = start; vectors = set vectors at vector; settled = page }) old vector (old_is at start page vectors old group view within value)
+    (ap (λ (g : GroupRows). g.first) view) (ap (λ (g : GroupRows). g.settled) view) (ap (λ (g : GroupRows). set g.vectors at vector) view) each
+
+-- the vector that changed in the view
+pub new_is : (at start : ℕ) (page : Option ℕ) (vectors : List VectorRows) (vector : VectorRows) (group : GroupRows) → record { first = start; vectors = vectors; settled = page } ≡ group → at < length group.vectors
+    → slice_get (set vectors at vector) at ≡ Some vector
+new_is at start page vectors vector group view within =
+    set_at vectors at at vector (subst (λ (g : GroupRows). at < length g.vectors) (sym view) within) ∙ ap (λ b. cond b (Some vector) (slice_get vectors at)) ((Decides-eqb at at).1 refl)
+
+pub tops_view : (at start : ℕ) (page : Option ℕ) (vectors : List VectorRows) (old vector : VectorRows) (group : GroupRows) → record { first = start; vectors = vectors; settled = page } ≡ group
+    → at < length group.vectors → old ≡ get_or vectors at old → ((id : ℕ) → IsOnTop id old.nodes → IsOnTop id vector.nodes)
+    → TopsStay group (record { first = start; vectors = set vectors at vector; settled = page })
+tops_view at start page vectors old vector group view within value each = λ id v h.
+    each_at (IsTopAt id) at group (record { first = start; vectors = set vectors at vector; settled = page }) old vector (old_is at start page vectors old group view within value)
+    (ap (λ (g : GroupRows). set g.vectors at vector) view) (each id) v h
+
+pub same_tops : (old new : VectorRows) → new.nodes ≡ old.nodes → (id : ℕ) → IsOnTop id old.nodes → IsOnTop id new.nodes
+same_tops old new e id top = subst (λ (n : List Node). IsOnTop id n) (sym e) top
 
 pub shape_is : (old new : VectorRows) → new.base ≡ old.base → new.stamps ≡ old.stamps → shape_of new ≡ shape_of old
 shape_is old new base stamps =
@@ -111,3 +141,7 @@ pub told_refusal : {T : Type 0} (start : ℕ) (o : Option Blocked) (done : Resul
     → IfErr done (IsRefusal o) → IfErr result (IsError start o)
 told_refusal {T} start o (Ok x) result e p = subst (λ (r : Result T GroupError). IfErr r (IsError start o)) (sym e) tt
 told_refusal {T} start o (Err x) result e p = subst (λ (r : Result T GroupError). IfErr r (IsError start o)) (sym e) (error_is start o x p)
+
+pub ok_after : {T E P Q : Type 0} (result : Result T E) → (P → Q) → OnOk result P → OnOk result Q
+ok_after {T} {E} {P} {Q} (Ok x) f p = f p
+ok_after {T} {E} {P} {Q} (Err x) f p = tt

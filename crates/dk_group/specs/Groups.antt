@@ -16,10 +16,11 @@ use Rattle.dk_vector.specs.Pages.{IsPage}
 use Rattle.dk_group.specs.declared.edits.Refusal.{Refusal}
 use Rattle.dk_group.specs.declared.edits.Refusal.TheVariants as refusals
 
--- the row id of the first row, and the vectors
+-- the row id of the first row, the vectors, and the root block of the page that the group was settled on
 pub record GroupRows : Type 0 where
   pub first : ℕ
   pub vectors : List VectorRows
+  pub settled : Option ℕ
 
 -- the row ids end below 2^64, and there are no more than 60 vectors
 pub record IsGroup (start : ℕ) (list : List VectorRows) : Type 0 where
@@ -49,6 +50,12 @@ shapes group = map shape_of group.vectors
 pub record IsStep (step : ℕ → Stack → Stack) (old new : VectorRows) : Type 0 where
   pub shape : shape_of new ≡ shape_of old
   pub rows : (row : ℕ) → stack_at new row ≡ step row (stack_at old row)
+  pub apart : old.stamps.apart ≡ true → new.stamps.apart ≡ true
+
+-- each row of a vector has its own stamps
+abbrev pub IsApartAt : Option VectorRows → Type 0
+IsApartAt None = ⊥
+IsApartAt (Some vector) = vector.stamps.apart ≡ true
 
 -- each row is as before
 abbrev pub same : ℕ → Stack → Stack
@@ -59,6 +66,8 @@ pub record IsChangedAt (at : ℕ) (step : ℕ → Stack → Stack) (old new : Gr
   pub start : new.first ≡ old.first
   pub shapes_stay : shapes new ≡ shapes old
   pub rows : (vector row : ℕ) → stack_in new vector row ≡ (if vector == at then step row (stack_in old vector row) else stack_in old vector row)
+  pub apart : (vector : ℕ) → IsApartAt (slice_get old.vectors vector) → IsApartAt (slice_get new.vectors vector)
+  pub page : new.settled ≡ old.settled
 
 -- each row is as before
 pub record IsKept (old new : GroupRows) : Type 0 where
@@ -126,12 +135,20 @@ pub record IsFilled (id : ℕ) (table : OptionTable) (vector : VectorRows) : Typ
   pub past : (row : ℕ) → length table.rows ≤ row → stack_at vector row ≡ absent
 
 abbrev pub with_vector : VectorRows → GroupRows → GroupRows
-with_vector vector group = record { first = group.first; vectors = group.vectors ++ vector ∷ [] }
+with_vector vector group = record group { vectors = group.vectors ++ vector ∷ [] }
 
--- the newest change of a transaction that stands is on top in a vector
+-- settled on a page
+abbrev pub with_page : ℕ → GroupRows → GroupRows
+with_page root group = record group { settled = Some root }
+
+-- the changes of a transaction are the newest that stand on each row of a vector
 abbrev pub IsTopAt : ℕ → Option VectorRows → Type 0
 IsTopAt id None = ⊥
 IsTopAt id (Some vector) = IsOnTop id vector.nodes
+
+-- and stay so in each vector, for each transaction
+abbrev pub TopsStay : GroupRows → GroupRows → Type 0
+TopsStay old new = (id vector : ℕ) → IsTopAt id (slice_get old.vectors vector) → IsTopAt id (slice_get new.vectors vector)
 
 -- the rows are there for the reader in that vector
 abbrev pub AreThereAt : (ℕ → Bool) → List ℕ → Option VectorRows → Type 0

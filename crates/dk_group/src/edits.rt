@@ -1,10 +1,10 @@
 //! Changes and deletions of rows of one vector, refused where a reader doesn't see a row's newest version.
-ghost use Rattle.std.specs.Prelude.{◌≡◌, ◌≢◌, ◌<◌, ◌+◌, ◌^◌, None, Some, false, length, IfErr, OnOk, OnErr};
+ghost use Rattle.std.specs.Prelude.{◌≡◌, ◌≢◌, ◌<◌, ◌+◌, ◌^◌, None, Some, true, false, length, IfErr, OnOk, OnErr};
 ghost use Rattle.std.specs.List.{All};
 ghost use Rattle.dk_stamp.specs.declared.snapshot.TheConstants.{NEVER as UNDONE};
 ghost use Rattle.dk_stamp.specs.Sees.{sees};
 ghost use Rattle.dk_columns.specs.OptionTables.{FitsKinds};
-ghost use Rattle.dk_vector.specs.Vectors.{AreThere, ArePlaced, first_blocked, against_in};
+ghost use Rattle.dk_vector.specs.Vectors.{AreThere, ArePlaced, IsOnTop, first_blocked, against_in};
 ghost use Rattle.dk_group.specs.Groups.{IsStep, IsRefusal, same, changing, erasing, error_of, told};
 
 use dk_rows::Rows;
@@ -48,6 +48,7 @@ fn write_vector(
     requires count { length values.now ≡ length rows.now }
     requires fits { All (FitsKinds vector.old.base.kinds) values.now }
     ensures ok { OnOk result (IsStep (changing id rows.now values.now) vector.old vector.new) }
+    ensures top { OnOk result (IsOnTop id vector.old.nodes → IsOnTop id vector.new.nodes) }
     ensures err { OnErr result (IsStep same vector.old vector.new) }
 {
     vector.clean()?;
@@ -68,6 +69,7 @@ pub(crate) fn change_vector(
     requires count { length values.now ≡ length rows.now }
     requires fits { All (FitsKinds vector.old.base.kinds) values.now }
     ensures ok { OnOk result (IsStep (changing snapshot.now.id rows.now values.now) vector.old vector.new) }
+    ensures top { OnOk result (IsOnTop snapshot.now.id vector.old.nodes → IsOnTop snapshot.now.id vector.new.nodes) }
     ensures err { OnErr result (IsStep same vector.old vector.new) }
     ensures free { OnOk result (first_blocked (against_in (sees snapshot.now) vector.old) rows.now ≡ None) }
     ensures refused { IfErr result (λ e.
@@ -89,6 +91,8 @@ pub(crate) fn erase_vector(
     requires never { sees snapshot.now UNDONE ≡ false }
     requires there { AreThere (sees snapshot.now) vector.old rows.now }
     ensures ok { OnOk result (IsStep (erasing snapshot.now.id rows.now) vector.old vector.new) }
+    ensures placed { OnOk result (ArePlaced rows.now vector.new × (vector.new.stamps.apart ≡ true)) }
+    ensures nodes { OnOk result (vector.new.nodes ≡ vector.old.nodes) }
     ensures err { OnErr result (vector.new ≡ vector.old) }
     ensures free { OnOk result (first_blocked (against_in (sees snapshot.now) vector.old) rows.now ≡ None) }
     ensures refused { IfErr result (λ e.

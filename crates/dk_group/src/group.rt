@@ -3,7 +3,7 @@ ghost use Rattle.std.specs.Prelude.{◌≡◌, ◌≢◌, ◌<◌, ◌+◌, ◌*
 ghost use Rattle.dk_stamp.specs.declared.snapshot.TheConstants.{NEVER as UNDONE};
 ghost use Rattle.dk_stamp.specs.Sees.{sees};
 ghost use Rattle.dk_vector.specs.Stacks.{pruned};
-ghost use Rattle.dk_group.specs.Groups.{IsChangedAt, stamping, undoing, changing, erasing, same, placing, place_stamping, displacing, erase_stamping, restoring, with_vector, AreFreshAt, ArePlacedAt, IsTopAt, AreThereAt, FitVector, IsPageAt, IsError, blocked_in};
+ghost use Rattle.dk_group.specs.Groups.{IsChangedAt, IsKept, with_page, stamping, undoing, changing, erasing, same, placing, place_stamping, displacing, erase_stamping, restoring, with_vector, AreFreshAt, ArePlacedAt, IsTopAt, TopsStay, AreThereAt, FitVector, IsPageAt, IsError, blocked_in};
 
 use crate::edits::{change_vector, erase_vector, tell};
 use dk_columns::OptionRows;
@@ -17,12 +17,13 @@ use std::marker::Model;
 /// How many rows a vector has at most.
 pub const VECTOR_ROWS: u64 = 2048;
 
-/// The vectors of a group and the row id of its first row.
+/// The vectors of a group, the row id of its first row, and the root block of the page that it was settled on last.
 #[derive(Drop)]
 pub struct Group {
     alloc: Global,
     first: u64,
     vectors: Vec<Vector>,
+    settled: Option<u64>,
 }
 
 impl Model for Group {
@@ -30,7 +31,11 @@ impl Model for Group {
 
     ghost Value = { GroupRows };
 
-    ghost view = { λ group. record { first = group.first; vectors = group.vectors.items } };
+    ghost view = { λ group. record {
+      first = group.first;
+      vectors = group.vectors.items;
+      settled = group.settled;
+    } };
 
     ghost invariant = { λ group. IsGroup group.first group.vectors.items };
 }
@@ -39,12 +44,13 @@ impl Group {
     /// No rows. The row ids of those to come begin with this one.
     pub fn empty(alloc: Global, first: u64) -> Group
         requires { first + 2 ^ 18 < 2 ^ 64 }
-        ensures { result ≡ record { first = first; vectors = [] } }
+        ensures { result ≡ record { first = first; vectors = []; settled = None } }
     {
         Group {
             alloc,
             first,
             vectors: Vec::new(alloc),
+            settled: None,
         }
     }
 
@@ -64,12 +70,25 @@ impl Group {
         self.vectors.push(vector).map_err(|_| OutOfMemory)
     }
 
+    /// Takes the group as settled on the page with this root block, and hands out the one before. What its rows show
+    /// stays the same.
+    pub fn settle(&mut self, root: u64) -> Option<u64>
+        ensures before { result ≡ self.old.settled }
+        ensures page { self.new ≡ with_page root self.old }
+        ensures rows { IsKept self.old self.new }
+    {
+        let before = self.settled;
+        self.settled = Some(root);
+        before
+    }
+
     /// Puts in the spare rows of a vector, for a transaction.
     pub fn append(&mut self, at: usize, id: u64)
         requires vector { at < length self.old.vectors }
         requires id { id ≢ UNDONE }
         requires fresh { AreFreshAt (slice_get self.old.vectors at) }
-        ensures { IsChangedAt at (placing id (slice_get self.old.vectors at)) self.old self.new }
+        ensures rows { IsChangedAt at (placing id (slice_get self.old.vectors at)) self.old self.new }
+        ensures tops { TopsStay self.old self.new }
     {
         self.vectors[at].append(id);
     }
@@ -79,7 +98,8 @@ impl Group {
         requires vector { at < length self.old.vectors }
         requires id { id ≢ UNDONE }
         requires number { number ≢ UNDONE }
-        ensures { IsChangedAt at (place_stamping id number) self.old self.new }
+        ensures rows { IsChangedAt at (place_stamping id number) self.old self.new }
+        ensures tops { TopsStay self.old self.new }
     {
         self.vectors[at].stamp_append(id, number);
     }
@@ -88,7 +108,8 @@ impl Group {
     pub fn undo_append(&mut self, at: usize, id: u64)
         requires vector { at < length self.old.vectors }
         requires id { id ≢ UNDONE }
-        ensures { IsChangedAt at (displacing id) self.old self.new }
+        ensures rows { IsChangedAt at (displacing id) self.old self.new }
+        ensures tops { TopsStay self.old self.new }
     {
         self.vectors[at].undo_append(id);
     }
@@ -97,7 +118,8 @@ impl Group {
     pub fn stamp_delete(&mut self, at: usize, rows: &[u16], number: u64)
         requires vector { at < length self.old.vectors }
         requires placed { ArePlacedAt rows.now (slice_get self.old.vectors at) }
-        ensures { IsChangedAt at (erase_stamping number rows.now) self.old self.new }
+        ensures rows { IsChangedAt at (erase_stamping number rows.now) self.old self.new }
+        ensures tops { TopsStay self.old self.new }
     {
         self.vectors[at].stamp_erased(rows, number);
     }
@@ -106,7 +128,8 @@ impl Group {
     pub fn undo_delete(&mut self, at: usize, rows: &[u16])
         requires vector { at < length self.old.vectors }
         requires placed { ArePlacedAt rows.now (slice_get self.old.vectors at) }
-        ensures { IsChangedAt at (restoring rows.now) self.old self.new }
+        ensures rows { IsChangedAt at (restoring rows.now) self.old self.new }
+        ensures tops { TopsStay self.old self.new }
     {
         self.vectors[at].restore(rows);
     }
@@ -115,7 +138,8 @@ impl Group {
     pub fn drop_old(&mut self, at: usize, bound: u64)
         requires vector { at < length self.old.vectors }
         requires bound { bound < UNDONE }
-        ensures { IsChangedAt at (λ _ stack. pruned bound stack) self.old self.new }
+        ensures rows { IsChangedAt at (λ _ stack. pruned bound stack) self.old self.new }
+        ensures tops { TopsStay self.old self.new }
     {
         self.vectors[at].drop_old(bound);
     }
@@ -135,7 +159,8 @@ impl Group {
         requires vector { at < length self.old.vectors }
         requires id { id ≢ UNDONE }
         requires top { IsTopAt id (slice_get self.old.vectors at) }
-        ensures { IsChangedAt at (undoing id (slice_get self.old.vectors at)) self.old self.new }
+        ensures rows { IsChangedAt at (undoing id (slice_get self.old.vectors at)) self.old self.new }
+        ensures top { IsTopAt id (slice_get self.new.vectors at) }
     {
         self.vectors[at].undo_update(id);
     }
@@ -171,6 +196,8 @@ impl Group {
         requires count { length values.now ≡ length rows.now }
         requires fits { FitVector values.now (slice_get self.old.vectors at) }
         ensures ok { OnOk result (IsChangedAt at (changing snapshot.now.id rows.now values.now) self.old self.new) }
+        ensures top { OnOk result (IsTopAt snapshot.now.id (slice_get self.old.vectors at)
+            → IsTopAt snapshot.now.id (slice_get self.new.vectors at)) }
         ensures err { OnErr result (IsChangedAt at same self.old self.new) }
         ensures free { OnOk result (blocked_in (sees snapshot.now) rows.now (slice_get self.old.vectors at) ≡ None) }
         ensures refused { IfErr result (λ e. IsError (self.old.first + 2048 * at)
@@ -187,6 +214,8 @@ impl Group {
         requires vector { at < length self.old.vectors }
         requires there { AreThereAt (sees snapshot.now) rows.now (slice_get self.old.vectors at) }
         ensures ok { OnOk result (IsChangedAt at (erasing snapshot.now.id rows.now) self.old self.new) }
+        ensures placed { OnOk result (ArePlacedAt rows.now (slice_get self.new.vectors at)) }
+        ensures tops { OnOk result (TopsStay self.old self.new) }
         ensures err { OnErr result (IsChangedAt at same self.old self.new) }
         ensures free { OnOk result (blocked_in (sees snapshot.now) rows.now (slice_get self.old.vectors at) ≡ None) }
         ensures refused { IfErr result (λ e. IsError (self.old.first + 2048 * at)

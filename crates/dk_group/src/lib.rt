@@ -7,6 +7,8 @@
 mod edits;
 mod fill;
 mod group;
+#[cfg(test)]
+mod tests;
 
 pub use edits::Refusal;
 pub use fill::filled_vector;

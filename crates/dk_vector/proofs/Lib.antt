@@ -1,6 +1,7 @@
 pub mod HidingLemmas
 pub mod StandingLemmas
 pub mod UndoLemmas
+pub mod TopLemmas
 pub mod VectorLemmas
 pub mod ReadLemmas
 pub mod BlockedLemmas

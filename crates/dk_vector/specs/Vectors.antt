@@ -1,12 +1,12 @@
 -- The rows of one vector with their versions, as they are kept and as stacks.
-use Rattle.std.specs.Prelude.{◌≡◌, ℕ, Bool, true, not, ◌==◌, List, [], ◌∷◌, Option, Some, None, slice_get, if◌then◌else◌, length, ◌<◌, ◌≢◌}
+use Rattle.std.specs.Prelude.{◌≡◌, ℕ, Bool, true, not, ◌||◌, ◌==◌, List, [], ◌∷◌, Option, Some, None, slice_get, if◌then◌else◌, length, ◌<◌, ◌≢◌}
 use Rattle.std.specs.List.{filter, list_all, list_any, All}
 use Rattle.dk_values.specs.declared.value.ColType.{ColType}
 use Rattle.dk_values.specs.declared.value.Value.{Value}
 use Rattle.dk_columns.specs.OptionTables.{OptionTable, FitsKinds}
 use Rattle.dk_stamp.specs.declared.snapshot.TheConstants.{NEVER}
 use Rattle.dk_chain.specs.declared.node.Node.{Node}
-use Rattle.dk_chain.specs.Nodes.{RowNode, nodes_at, put_back, newest_stamp, newest_has}
+use Rattle.dk_chain.specs.Nodes.{RowNode, nodes_at, put_back, row_has_stamp}
 use Rattle.dk_version.specs.declared.stamps.Stamp.{Stamp}
 use Rattle.dk_version.specs.Rows.{VectorStamps, with_deleted}
 use Rattle.dk_vector.specs.Stacks.{Stack, absent, is_there, blocker}
@@ -82,9 +82,15 @@ stack_if (Some stamp) base nodes = stack_of stamp base nodes
 abbrev pub stack_at : VectorRows → ℕ → Stack
 stack_at vector row = stack_if (slice_get vector.stamps.rows row) (base_at row vector.base) (nodes_at row vector.nodes)
 
--- the newest node of a transaction is the newest that stands on each of its rows
+-- a transaction's nodes of a row are the newest of those that stand
+abbrev pub is_on_top : ℕ → List RowNode → Bool
+is_on_top id [] = true
+is_on_top id (node ∷ older) =
+    if node.stamp == id || node.stamp == NEVER then is_on_top id older else not (row_has_stamp id older)
+
+-- and so on each row: its changes can be undone, the newest first
 abbrev pub IsOnTop : ℕ → List Node → Type 0
-IsOnTop id nodes = (row : ℕ) → newest_has row id nodes ≡ true → newest_stamp (nodes_at row nodes) ≡ Some id
+IsOnTop id nodes = (row : ℕ) → is_on_top id (nodes_at row nodes) ≡ true
 
 -- the old values of a row, or else those of its base
 abbrev pub or_base : List Value → Option (List Value) → List Value

@@ -100,6 +100,7 @@ impl Vector {
     pub fn clean(&mut self) -> Result<(), OutOfMemory>
         ensures rows { (row : ℕ) → stack_at self.new row ≡ stack_at self.old row }
         ensures none { OnOk result (NoneUndone self.new.nodes) }
+        ensures tops { OnOk result ((id : ℕ) → IsOnTop id self.old.nodes → IsOnTop id self.new.nodes) }
         ensures stamps { self.new.stamps ≡ self.old.stamps }
         ensures kinds { self.new.base.kinds ≡ self.old.base.kinds }
         ensures err { OnErr result (self.new ≡ self.old) }
@@ -138,6 +139,7 @@ impl Vector {
     pub fn undo_update(&mut self, id: u64)
         requires id { id ≢ UNDONE }
         requires top { IsOnTop id self.old.nodes }
+        ensures top { IsOnTop id self.new.nodes }
         ensures rows { (row : ℕ) → stack_at self.new row ≡ (if newest_has row id self.old.nodes
             then undone (stack_at self.old row) else stack_at self.old row) }
         ensures stamps { self.new.stamps ≡ self.old.stamps }
@@ -150,6 +152,7 @@ impl Vector {
     pub fn drop_old(&mut self, bound: u64)
         requires { bound < UNDONE }
         ensures rows { (row : ℕ) → stack_at self.new row ≡ pruned bound (stack_at self.old row) }
+        ensures tops { (id : ℕ) → IsOnTop id self.old.nodes → IsOnTop id self.new.nodes }
         ensures stamps { self.new.stamps ≡ self.old.stamps }
         ensures base { self.new.base ≡ self.old.base }
     {
@@ -246,6 +249,7 @@ impl Vector {
         ensures rows { OnOk result ((row : ℕ) → stack_at self.new row
             ≡ updated_if id (old_in row rows.now values.now) (stack_at self.old row)) }
         ensures none { OnOk result (NoneUndone self.new.nodes) }
+        ensures top { OnOk result (IsOnTop id self.old.nodes → IsOnTop id self.new.nodes) }
         ensures base { OnOk result (IsWritten rows.now values.now self.old.base self.new.base) }
         ensures stamps { OnOk result (self.new.stamps ≡ self.old.stamps) }
         ensures err { OnErr result (self.new ≡ self.old) }

@@ -1,10 +1,15 @@
 use Rattle.dk_group.specs.Groups.{restoring}
-use Rattle.dk_group.proofs.GroupLemmas.{at_view, shape_counts}
+use Rattle.dk_group.proofs.GroupLemmas.{at_view, tops_view, same_tops, shape_counts}
 use Rattle.dk_group.proofs.group.Group.undo_delete.Goals as goal
 
-pub returns : goal.returns
-returns c =
+pub returns-clause-rows : goal.returns-clause-rows
+returns-clause-rows c =
     let old = c.index_mut.result.now in
     let new = c.restore.new.self in
-    at_view c.args.at (restoring c.args.rows.now) c.self.inside.first c.self.inside.vectors.items old new c.args.self.now c.self.view_is c.requires.vector c.index_mut.ensures.value
-    (record { shape = shape_counts old new c.restore.ensures.base c.restore.ensures.count; rows = c.restore.ensures.rows })
+    at_view c.args.at (restoring c.args.rows.now) c.self.inside.first c.self.inside.settled c.self.inside.vectors.items old new c.args.self.now c.self.view_is c.requires.vector c.index_mut.ensures.value
+    (record { shape = shape_counts old new c.restore.ensures.base c.restore.ensures.count; rows = c.restore.ensures.rows; apart = λ h. c.restore.ensures.apart })
+
+pub returns-clause-tops : goal.returns-clause-tops
+returns-clause-tops c =
+    tops_view c.args.at c.self.inside.first c.self.inside.settled c.self.inside.vectors.items c.index_mut.result.now c.restore.new.self c.args.self.now c.self.view_is c.requires.vector c.index_mut.ensures.value
+    (same_tops c.index_mut.result.now c.restore.new.self c.restore.ensures.nodes)

@@ -2,9 +2,10 @@ use Rattle.std.proofs.Common.{[], ◌∷◌, ◌++◌, length, ap, ◌∙◌, sy
 use Rattle.std.proofs.lemmas.List.Elements.{All-same}
 use Rattle.dk_columns.specs.OptionTables.{OptionTable}
 use Rattle.dk_chain.specs.Nodes.{nodes_at, old_in}
-use Rattle.dk_vector.specs.Vectors.{VectorRows, vector_of, IsNodeOf, stack_at, ArePlaced}
+use Rattle.dk_vector.specs.Vectors.{VectorRows, vector_of, IsNodeOf, stack_at, ArePlaced, IsOnTop}
 use Rattle.dk_vector.specs.Changes.{IsWritten, NoneUndone, updated_if}
 use Rattle.dk_vector.proofs.StandingLemmas.{all_first}
+use Rattle.dk_vector.proofs.TopLemmas.{top_changed}
 use Rattle.dk_vector.proofs.WholeLemmas.{change_fits, placed_below}
 use Rattle.dk_vector.proofs.ChangeLemmas.{change_stands, change_at}
 use Rattle.dk_vector.proofs.vector.Vector.change.Goals as goal
@@ -43,3 +44,8 @@ returns-clause-rows c =
     c.in_ok-new.ensures.stamp c.in_ok-new.ensures.offsets (c.in_ok-new.ensures.old ∙ c.in_ok-old.ensures) c.requires.count
     (c.in_ok-push.ensures.rows row) written none placed
     ∙ ap (λ (v : VectorRows). updated_if c.args.id (old_in row rows values) (stack_at v row)) c.self.view_is
+
+pub returns-clause-top : goal.returns-clause-top
+returns-clause-top c = λ top row.
+    top_changed c.args.id c.requires.id c.in_ok-new.field-0 (nodes_at row c.push.new.self) (nodes_at row c.self.inside.chain) row c.in_ok-new.ensures.stamp (c.in_ok-push.ensures.rows row)
+    (subst (λ (v : VectorRows). IsOnTop c.args.id v.nodes) (sym c.self.view_is) top row)

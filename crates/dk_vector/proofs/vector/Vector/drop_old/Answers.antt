@@ -1,10 +1,11 @@
-use Rattle.std.proofs.Common.{ap, ◌∙◌, length}
+use Rattle.std.proofs.Common.{ap, ◌∙◌, sym, subst, length}
 use Rattle.std.specs.Prelude.{slice_get, nat_lt}
 use Rattle.std.proofs.lemmas.List.Elements.{All-same, All-filter}
 use Rattle.dk_chain.specs.declared.node.Node.{Node}
-use Rattle.dk_chain.specs.Nodes.{nodes_at, above}
+use Rattle.dk_chain.specs.Nodes.{RowNode, nodes_at, above}
 use Rattle.dk_vector.specs.Stacks.{pruned}
-use Rattle.dk_vector.specs.Vectors.{VectorRows, IsNodeOf, stack_at, base_at}
+use Rattle.dk_vector.specs.Vectors.{VectorRows, IsNodeOf, stack_at, base_at, IsOnTop}
+use Rattle.dk_vector.proofs.TopLemmas.{top_after_filter}
 use Rattle.dk_vector.proofs.VectorLemmas.{drop_rows, drop_first}
 use Rattle.dk_vector.proofs.vector.Vector.drop_old.Goals as goal
 
@@ -22,3 +23,8 @@ returns-clause-rows c = λ row.
     drop_rows c.args.bound (slice_get c.self.inside.stamps.rows row) (base_at row c.self.inside.base) (nodes_at row c.drop_old.new.self) (nodes_at row c.self.inside.chain)
     c.requires (c.drop_old.ensures.rows row)
     ∙ ap (λ (v : VectorRows). pruned c.args.bound (stack_at v row)) c.self.view_is
+
+pub returns-clause-tops : goal.returns-clause-tops
+returns-clause-tops c = λ id top row.
+    top_after_filter id (λ (node : RowNode). nat_lt c.args.bound node.stamp) (nodes_at row c.drop_old.new.self) (nodes_at row c.self.inside.chain) (c.drop_old.ensures.rows row)
+    (subst (λ (v : VectorRows). IsOnTop id v.nodes) (sym c.self.view_is) top row)
