@@ -20,7 +20,8 @@ begun_more lines start at line below within is =
     ∙ take-suc (drop start lines) (at - start) line far
     ∙ ap (λ x. begun lines start at ++ x ∷ []) (get_or-drop start lines (at - start) line ∙ ap (λ n. get_or lines n line) place ∙ is)
 
-rest_is : (lines : List Line) (at : ℕ) (line : Line) → at < length lines → get_or lines at line ≡ line
+-- what begins at a place
+pub rest_is : {T : Type 0} (lines : List T) (at : ℕ) (line : T) → at < length lines → get_or lines at line ≡ line
     → drop at lines ≡ line ∷ drop (at + 1) lines
 rest_is lines at line within is =
     let next : suc at ≡ at + 1 = omega arith in

@@ -2,3 +2,4 @@ pub mod SortLemmas
 pub mod OrderLemmas
 pub mod LimitLemmas
 pub mod GroupLemmas
+pub mod DirectLemmas

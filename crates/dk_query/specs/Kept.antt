@@ -41,9 +41,9 @@ line_if row items true = option_map (λ values. Some (record { row = row; values
 abbrev pub line_of : BoundQuery → List Value → Option (Option Line)
 line_of query row = elim (passes query.filter row) [ None ↦ None | Some keeps ↦ line_if row query.items keeps ]
 
--- lines behind those of a front
-abbrev pub behind : List Line → Result (List Line) ℕ → Result (List Line) ℕ
-behind front (Ok lines) = Ok (front ++ lines)
+-- what comes of more rows, behind what came of a front
+abbrev pub behind : {T : Type 0} → List T → Result (List T) ℕ → Result (List T) ℕ
+behind front (Ok found) = Ok (front ++ found)
 behind front (Err row) = Err row
 
 -- the line of a row, if it has one, before those of the rows behind it; a row without a value is named by its id

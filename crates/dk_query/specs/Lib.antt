@@ -4,3 +4,4 @@ pub mod Kept
 pub mod Groups
 pub mod Selected
 pub mod Laws
+pub mod Direct

@@ -7,6 +7,7 @@
 //! `dk_rows`, the values of `dk_values`, and on `thiserror`.
 #![tactic(auto)]
 
+mod direct;
 mod fault;
 mod groups;
 pub mod laws;
@@ -17,6 +18,6 @@ mod query;
 mod tests;
 
 pub use fault::QueryError;
-pub use lines::Line;
+pub use lines::{Line, passes};
 pub use order::compare_values;
 pub use query::select;

@@ -16,7 +16,7 @@ pub struct Line {
 }
 
 /// Whether the filter keeps the row.
-fn passes(filter: &Option<BoundExpr>, row: &Row) -> Result<bool, EvalError>
+pub fn passes(filter: &Option<BoundExpr>, row: &Row) -> Result<bool, EvalError>
     ensures { HasValue result (passes filter.now row.now) }
 {
     match filter {

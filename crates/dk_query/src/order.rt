@@ -102,7 +102,7 @@ pub fn compare_values(left: &Value, right: &Value) -> Ordering
 }
 
 /// Lends the value of a column, if the row is as long.
-fn column_of(row: &[Value], column: usize) -> Option<&Value>
+pub fn column_of(row: &[Value], column: usize) -> Option<&Value>
     ensures { option_copied result ≡ slice_get row.now column }
 {
     row.get(column)

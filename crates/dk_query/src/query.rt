@@ -3,6 +3,7 @@ ghost use Rattle.std.specs.Prelude.{◌≡◌, IfOk, map, length, take};
 ghost use Rattle.dk_query.specs.Kept.{Gives};
 ghost use Rattle.dk_query.specs.Selected.{selected, lines_of, limited, within_limit};
 
+use crate::direct::{direct_rows, is_direct};
 use crate::fault::QueryError;
 use crate::groups::group_lines;
 use crate::lines::{Line, kept_lines};
@@ -50,8 +51,8 @@ fn lines_of(alloc: Global, query: &BoundQuery, lines: Vec<Line>) -> Result<Vec<L
     }
 }
 
-/// The rows that a query gives on the rows of its table, whose ids are their places.
-pub fn select(alloc: Global, query: &BoundQuery, rows: &[Option<Row>]) -> Result<Rows, QueryError>
+/// The rows of a query that are made of lines.
+fn ordered_rows(alloc: Global, query: &BoundQuery, rows: &[Option<Row>]) -> Result<Rows, QueryError>
     ensures { Gives (λ found. found) result (selected query.now rows.now) }
 {
     let lines = kept_lines(alloc, query, rows)?.into_vec();
@@ -59,4 +60,16 @@ pub fn select(alloc: Global, query: &BoundQuery, rows: &[Option<Row>]) -> Result
     let keys = order_keys(alloc, query.keys.as_slice())?;
     sort_lines(&mut lines, keys.as_slice())?;
     Ok(values_of(alloc, lines.as_slice(), query.limit)?)
+}
+
+/// The rows that a query gives on the rows of its table, whose ids are their places.
+#[tactic(auto, using(crate::proofs::DirectLemmas::direct_is))]
+pub fn select(alloc: Global, query: &BoundQuery, rows: &[Option<Row>]) -> Result<Rows, QueryError>
+    ensures { Gives (λ found. found) result (selected query.now rows.now) }
+{
+    if is_direct(query) {
+        direct_rows(alloc, query, rows)
+    } else {
+        ordered_rows(alloc, query, rows)
+    }
 }

@@ -178,6 +178,27 @@ fn below(alloc: Global, factor: i64, most: i64, places: &[&[u8]]) -> Result<Vec<
     given(alloc, &query, places)
 }
 
+/// The second column times a factor, and behind it the first one.
+fn multiples(alloc: Global, factor: i64) -> Result<BoundItems, OutOfMemory> {
+    let mut items = List::new(alloc);
+    let product = two(alloc, Op::Mul, BoundExpr::Col(1), factor)?;
+    items.push(BoundItem::Plain(product))?;
+    items.push(BoundItem::Plain(BoundExpr::Col(0)))?;
+    Ok(items)
+}
+
+/// These items on the first rows.
+fn first_rows(
+    alloc: Global,
+    items: BoundItems,
+    limit: Option<u64>,
+    places: &[&[u8]],
+) -> Result<Vec<u8>, OutOfMemory> {
+    let mut query = query(alloc, items, false);
+    query.limit = limit;
+    given(alloc, &query, places)
+}
+
 #[test]
 fn rows_stand_in_the_order_of_their_ids(rt: HostRuntime) -> Result<(), Fail> {
     let alloc = rt.alloc();
@@ -191,6 +212,54 @@ fn rows_stand_in_the_order_of_their_ids(rt: HostRuntime) -> Result<(), Fail> {
 fn where_keeps_what_is_true(rt: HostRuntime) -> Result<(), Fail> {
     let found = below(rt.alloc(), 1, 3, &PLACES)?;
     assert_eq!(rt; found.as_slice(), b"21 -2 ".as_slice());
+    Ok(())
+}
+
+#[test]
+fn a_filter_may_keep_no_row(rt: HostRuntime) -> Result<(), Fail> {
+    let found = below(rt.alloc(), 1, 1, &PLACES)?;
+    assert!(rt; found.is_empty());
+    Ok(())
+}
+
+#[test]
+fn items_stand_in_their_own_order(rt: HostRuntime) -> Result<(), Fail> {
+    let alloc = rt.alloc();
+    let mut items = List::new(alloc);
+    items.push(BoundItem::Plain(BoundExpr::Col(1)))?;
+    items.push(BoundItem::Plain(BoundExpr::Col(0)))?;
+    items.push(BoundItem::Plain(BoundExpr::Col(1)))?;
+    let found = first_rows(alloc, items, None, &PLACES)?;
+    assert_eq!(rt; found.as_slice(), b"121 2-2 313 -2- 5-5 313 ".as_slice());
+    Ok(())
+}
+
+#[test]
+fn an_expression_stands_beside_a_column(rt: HostRuntime) -> Result<(), Fail> {
+    let alloc = rt.alloc();
+    let found = first_rows(alloc, multiples(alloc, 3)?, None, &PLACES)?;
+    assert_eq!(rt; found.as_slice(), b"32 6- 91 -2 f- 91 ".as_slice());
+    Ok(())
+}
+
+#[test]
+fn the_first_rows_have_the_least_ids(rt: HostRuntime) -> Result<(), Fail> {
+    let alloc = rt.alloc();
+    let found = first_rows(alloc, columns(alloc)?, Some(3), &PLACES)?;
+    assert_eq!(rt; found.as_slice(), b"21 -2 13 ".as_slice());
+    let found = first_rows(alloc, columns(alloc)?, Some(0), &PLACES)?;
+    assert!(rt; found.is_empty());
+    Ok(())
+}
+
+#[test]
+fn a_row_behind_the_limit_may_have_no_value(rt: HostRuntime) -> Result<(), Fail> {
+    let alloc = rt.alloc();
+    let places = [b"10".as_slice(), b"", b"1-", b"12", b"13"];
+    let found = first_rows(alloc, multiples(alloc, i64::MAX)?, Some(1), &places)?;
+    assert_eq!(rt; found.as_slice(), b"!3".as_slice());
+    let found = first_rows(alloc, multiples(alloc, i64::MAX)?, Some(0), &places)?;
+    assert_eq!(rt; found.as_slice(), b"!3".as_slice());
     Ok(())
 }
 
