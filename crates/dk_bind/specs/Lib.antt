@@ -3,3 +3,4 @@ pub mod Lists
 pub mod Expressions
 pub mod Queries
 pub mod Statements
+pub mod Laws

@@ -12,6 +12,7 @@
 mod expressions;
 mod fault;
 mod kinds;
+pub mod laws;
 mod lists;
 mod queries;
 mod statements;
