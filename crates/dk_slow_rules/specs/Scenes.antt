@@ -1,7 +1,9 @@
 -- The core that a scene borrows its parts from, and what is asked of one of its sessions.
-use Rattle.std.specs.Prelude.{◌≡◌, Bool, true, false, Option, Some, None}
+use Rattle.std.specs.Prelude.{◌≡◌, ℕ, Bool, true, false, List, Option, Some, None}
+use Rattle.dk_si.specs.declared.history.Entry.{Entry}
 use Rattle.dk_si.specs.declared.machine.Session.{Session}
-use Rattle.dk_si.specs.ShortStanding.{stand_well}
+use Rattle.dk_si.specs.declared.standing.Standing.{Standing}
+use Rattle.dk_si.specs.ShortStanding.{IsBehind, stand_well}
 use Rattle.dk_si.specs.Standing.{standing_after}
 use Rattle.dk_core.specs.declared.seat.Seat.{Seat}
 use Rattle.dk_core.specs.Core.{Core}
@@ -26,6 +28,8 @@ abbrev pub passes : (Session → Seat → Bool) → Option Held → Bool
 passes test None = false
 passes test (Some held) = test held.session.now held.seat.now
 
--- stops and iterations stand well over the entries so far, as they do after events that were allowed
-abbrev pub StandsWell : Scene → Type 0
-StandsWell scene = stand_well scene.iteration scene.entries.now ≡ true
+-- stops and iterations stand well over these entries, as they do after events that were allowed, and this is what is
+-- kept of them behind the entries
+pub record StandWell (iteration : ℕ) (entries : List Entry) (standing : Standing) : Type 0 where
+  pub behind : IsBehind iteration entries standing
+  pub well : stand_well iteration entries ≡ true

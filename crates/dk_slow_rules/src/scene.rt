@@ -13,6 +13,7 @@ use dk_plain::CommitLog;
 use dk_si::database::Table;
 use dk_si::history::Entry;
 use dk_si::machine::Session;
+use dk_si::standing::Standing;
 use dk_slow_seats::layout::Groups;
 use dk_slow_seats::seats::seat_at;
 use dk_types::{Commit, Receipt};
@@ -26,6 +27,8 @@ pub struct Scene<'a> {
     /// The sessions have the numbers from 1 to this one.
     pub sessions: u32,
     pub entries: &'a [Entry],
+    /// What is kept of stops and iterations behind the entries.
+    pub standing: &'a Standing,
     pub commits: &'a [Commit],
     /// How many transactions have begun.
     pub begun: u64,
