@@ -83,6 +83,14 @@ abbrev is_quiet_refusal : Refusal → Bool
 is_quiet_refusal why.NoTransaction = true
 is_quiet_refusal why.InTransaction = true
 is_quiet_refusal why.Aborted = true
+is_quiet_refusal (why.NoTable at) = true
+is_quiet_refusal (why.NoColumn at) = true
+is_quiet_refusal (why.TypeMismatch at) = true
+is_quiet_refusal (why.SameColumn at) = true
+is_quiet_refusal (why.NotGrouped at) = true
+is_quiet_refusal (why.TableExists at) = true
+is_quiet_refusal (why.OutOfRange at) = true
+is_quiet_refusal why.TooManyTables = true
 is_quiet_refusal why.Unsupported = true
 is_quiet_refusal (why.TooLarge bytes rows) = true
 is_quiet_refusal other = false
@@ -121,6 +129,22 @@ module _ (opened : List Table) (last : ℕ) (before : List Entry) (machine : Mac
       fits_by may transaction (Good statement) (told.Refused why.InTransaction) passes refl refl refl refl refl
   quiet_refused may transaction statement why.Aborted quiet passes =
       fits_by may transaction (Good statement) (told.Refused why.Aborted) passes refl refl refl refl refl
+  quiet_refused may transaction statement (why.NoTable at) quiet passes =
+      fits_by may transaction (Good statement) (told.Refused (why.NoTable at)) passes refl refl refl refl refl
+  quiet_refused may transaction statement (why.NoColumn at) quiet passes =
+      fits_by may transaction (Good statement) (told.Refused (why.NoColumn at)) passes refl refl refl refl refl
+  quiet_refused may transaction statement (why.TypeMismatch at) quiet passes =
+      fits_by may transaction (Good statement) (told.Refused (why.TypeMismatch at)) passes refl refl refl refl refl
+  quiet_refused may transaction statement (why.SameColumn at) quiet passes =
+      fits_by may transaction (Good statement) (told.Refused (why.SameColumn at)) passes refl refl refl refl refl
+  quiet_refused may transaction statement (why.NotGrouped at) quiet passes =
+      fits_by may transaction (Good statement) (told.Refused (why.NotGrouped at)) passes refl refl refl refl refl
+  quiet_refused may transaction statement (why.TableExists at) quiet passes =
+      fits_by may transaction (Good statement) (told.Refused (why.TableExists at)) passes refl refl refl refl refl
+  quiet_refused may transaction statement (why.OutOfRange at) quiet passes =
+      fits_by may transaction (Good statement) (told.Refused (why.OutOfRange at)) passes refl refl refl refl refl
+  quiet_refused may transaction statement why.TooManyTables quiet passes =
+      fits_by may transaction (Good statement) (told.Refused why.TooManyTables) passes refl refl refl refl refl
   quiet_refused may transaction statement why.Unsupported quiet passes =
       fits_by may transaction (Good statement) (told.Refused why.Unsupported) passes refl refl refl refl refl
   quiet_refused may transaction statement (why.TooLarge bytes rows) quiet passes =
@@ -146,6 +170,14 @@ module _ (opened : List Table) (last : ℕ) (before : List Entry) (machine : Mac
 
   -- a refusal that is the same as itself
   same_is_quiet : (refusal : Refusal) → is_same_refusal refusal refusal ≡ true → is_quiet_refusal refusal ≡ true
+  same_is_quiet (why.NoTable at) same = refl
+  same_is_quiet (why.NoColumn at) same = refl
+  same_is_quiet (why.TypeMismatch at) same = refl
+  same_is_quiet (why.SameColumn at) same = refl
+  same_is_quiet (why.NotGrouped at) same = refl
+  same_is_quiet (why.TableExists at) same = refl
+  same_is_quiet (why.OutOfRange at) same = refl
+  same_is_quiet why.TooManyTables same = refl
   same_is_quiet why.Unsupported same = refl
   same_is_quiet (why.TooLarge bytes rows) same = refl
   same_is_quiet other same = absurd (false≢true same)
@@ -380,6 +412,22 @@ module _ (opened : List Table) (last : ℕ) (before : List Entry) (machine : Mac
         → (is_meant_refusal means refusal || (is_any_change means && is_that_refusal (size_refusal net) refusal))
         ≡ true
         → FitsChange (told.Refused refusal)
+    refused_fits (why.NoTable at) same may =
+        quiet changes_so (state.Open active) statement (told.Refused (why.NoTable at)) refl may
+    refused_fits (why.NoColumn at) same may =
+        quiet changes_so (state.Open active) statement (told.Refused (why.NoColumn at)) refl may
+    refused_fits (why.TypeMismatch at) same may =
+        quiet changes_so (state.Open active) statement (told.Refused (why.TypeMismatch at)) refl may
+    refused_fits (why.SameColumn at) same may =
+        quiet changes_so (state.Open active) statement (told.Refused (why.SameColumn at)) refl may
+    refused_fits (why.NotGrouped at) same may =
+        quiet changes_so (state.Open active) statement (told.Refused (why.NotGrouped at)) refl may
+    refused_fits (why.TableExists at) same may =
+        quiet changes_so (state.Open active) statement (told.Refused (why.TableExists at)) refl may
+    refused_fits (why.OutOfRange at) same may =
+        quiet changes_so (state.Open active) statement (told.Refused (why.OutOfRange at)) refl may
+    refused_fits why.TooManyTables same may =
+        quiet changes_so (state.Open active) statement (told.Refused why.TooManyTables) refl may
     refused_fits why.Unsupported same may =
         quiet changes_so (state.Open active) statement (told.Refused why.Unsupported) refl may
     refused_fits (why.TooLarge bytes rows) same may =
@@ -529,6 +577,6 @@ module _ (opened : List Table) (last : ℕ) (before : List Entry) (machine : Mac
       (answer opened last machine number transaction Unread) refl refl refl refl refl refl
   answer_fits transaction (Bad at) asks spent within sees =
       fits_by (may_answer opened machine.commits transaction (Bad at)) transaction (Bad at)
-      (answer opened last machine number transaction (Bad at)) refl refl refl refl refl refl
+      (answer opened last machine number transaction (Bad at)) (eq-eqb at at refl) refl refl refl refl refl
   answer_fits transaction (Good statement) asks spent within sees =
       state_fits transaction statement asks spent within sees

@@ -85,11 +85,19 @@ aborted_before : (other : Refusal) → is_aborted other ≡ true → other ≡ w
 aborted_before why.Aborted e = refl
 aborted_before other e = absurd (false≢true e)
 
-text_refusal : (at : ℕ) (other : Refusal) → is_text_refusal at other ≡ true → other ≡ why.Unsupported
-text_refusal at why.Unsupported e = refl
+text_refusal : (at : ℕ) (other : Refusal) → is_text_refusal at other ≡ true → other ≡ why.Syntax at
+text_refusal at (why.Syntax place) e = ap why.Syntax (eqb-true place at e)
 text_refusal at other e = absurd (false≢true e)
 
 same_refusal : (a b : Refusal) → is_same_refusal a b ≡ true → a ≡ b
+same_refusal (why.NoTable a) (why.NoTable b) e = ap why.NoTable (eqb-true a b e)
+same_refusal (why.NoColumn a) (why.NoColumn b) e = ap why.NoColumn (eqb-true a b e)
+same_refusal (why.TypeMismatch a) (why.TypeMismatch b) e = ap why.TypeMismatch (eqb-true a b e)
+same_refusal (why.SameColumn a) (why.SameColumn b) e = ap why.SameColumn (eqb-true a b e)
+same_refusal (why.NotGrouped a) (why.NotGrouped b) e = ap why.NotGrouped (eqb-true a b e)
+same_refusal (why.TableExists a) (why.TableExists b) e = ap why.TableExists (eqb-true a b e)
+same_refusal (why.OutOfRange a) (why.OutOfRange b) e = ap why.OutOfRange (eqb-true a b e)
+same_refusal why.TooManyTables why.TooManyTables e = refl
 same_refusal why.Unsupported why.Unsupported e = refl
 same_refusal (why.TooLarge a b) (why.TooLarge c d) e =
     let h = and_parts (a == c) (b == d) e in
@@ -562,7 +570,7 @@ to_call : (opened : List Table) (iteration : ℕ) (machine : Machine) (number : 
 to_call opened iteration machine number transaction Unread reply e free plain next may sees alone one =
     refused_as is_no_memory why.OutOfMemory no_memory reply e
 to_call opened iteration machine number transaction (Bad at) reply e free plain next may sees alone one =
-    refused_as (is_text_refusal at) why.Unsupported (text_refusal at) reply e
+    refused_as (is_text_refusal at) (why.Syntax at) (text_refusal at) reply e
 to_call opened iteration machine number transaction (Good statement) reply e free plain next may sees alone one =
     in_state opened iteration machine number transaction statement reply e free plain next may sees alone one
 

@@ -69,21 +69,6 @@ abbrev begin : ℕ → ℕ → List Event
 begin session commits = event.Call session (Good statement.Begin) ∷ event.Begin session ∷ event.Reply session
     (reply.Begun commits) ∷ []
 
--- UPDATE t SET a = n
-abbrev set_to : ℕ → Set
-set_to n = record { column = spot a; value = number n }
-
-abbrev update_statement : ℕ → Statement
-update_statement n = statement.Update (spot t) (set_to n ∷ []) None
-
-abbrev update : ℕ → ℕ → Event
-update session n = event.Call session (Good (update_statement n))
-
--- its Change of one row
-abbrev change : ℕ → ℕ → ℕ → Event
-change session row n = event.Change session (record { table = 0; group = 0; vector = 0 })
-    (record { table = 0; updates = (row, value.Big (pos n) ∷ []) ∷ []; deletes = []; rows = [] })
-
 -- DELETE FROM t, and its Change of one row
 abbrev erase : ℕ → Event
 erase session = event.Call session (Good (statement.Delete (spot t) None))
@@ -111,60 +96,23 @@ create_point session name = event.Point session (done.Create (name ∷ []) (colu
 abbrev call_commit : ℕ → Event
 call_commit session = event.Call session (Good statement.Commit)
 
--- the number of an UPDATE is a lawful expression
-lawful_number : (n : ℕ) → is_lawful_expr (number n) ≡ true
-lawful_number n =
-    fold-roll-Expr Bool Bool lawful_node lawful_place (record { at = 0; node = Lit (value.Big (pos n)) })
-    ∙ (ap (fold-Node Bool Bool lawful_node lawful_place) (sym (rolls-Lit (value.Big (pos n))))
-    ∙ fold-roll-Node Bool Bool lawful_node lawful_place (Node-F.Lit (value.Big (pos n))))
-
--- and so is its call
-lawful_update : (n : ℕ) → is_lawful (update_statement n) ≡ true
-lawful_update n =
-    and_from (is_name t) _ refl
-    (and_from (list_all (λ set. is_name set.column.name && is_lawful_expr set.value) (set_to n ∷ [])) true
-    (and_from (is_name a && is_lawful_expr (number n)) true (and_from (is_name a) _ refl (lawful_number n)) refl)
-    refl)
-
--- behind these events the call is allowed, and so are the events behind it
-with_update : (core : Core) (session n : ℕ) (events : List Event)
-    → allows core (update session n) ≡ true → all_allowed (step core (update session n)) events ≡ true
-    → all_allowed core (update session n ∷ events) ≡ true
-with_update core session n events call rest = and_from (allows core (update session n)) _ call rest
-
--- an UPDATE may be called where its statement is all that is asked
-may_update : (core : Core) (session n : ℕ) → nat_le session core.sessions ≡ true
-    → (before : Session) (seat : Seat) → session_at core.now.sessions session ≡ Some before
-    → seat_at core.seats session ≡ Some seat
-    → is_none before.asked ≡ true → (is_open before || is_none seat.live) ≡ true
-    → allows core (update session n) ≡ true
-may_update core session n within before seat is there none free =
-    and_from _ _ (and_from _ _ within
-    (ap (λ found. if_both (may_call (Good (update_statement n))) found (seat_at core.seats session)) is
-    ∙ (ap (λ found. if_both (may_call (Good (update_statement n))) (Some before) found) there
-    ∙ and_from _ _ (and_from _ _ none (lawful_update n)) free))) refl
-
--- session 1 updates both rows and commits
-abbrev two_updates : List Event
-two_updates = change 1 0 11 ∷ change 1 1 11 ∷ event.Reply 1 (reply.Changed 2 None) ∷ []
+-- session 1 deletes both rows and commits
+abbrev two_deletes : List Event
+two_deletes = erase 1 ∷ erased 1 0 ∷ erased 1 1 ∷ event.Reply 1 (reply.Changed 2 None) ∷ []
 
 -- a commit is half stamped when session 2 begins: its snapshot has the commit, as it has made its point
 abbrev half_stamped : List Event
 half_stamped =
-    begin 1 0 ++
-    (update 1 11 ∷ (two_updates ++ (call_commit 1 ∷ event.Point 1 done.Commit 7 ∷ event.Stamp 1 ∷ begin 2 1)))
+    begin 1 0 ++ (two_deletes ++ (call_commit 1 ∷ event.Point 1 done.Commit 7 ∷ event.Stamp 1 ∷ begin 2 1))
 
 half_stamped_allowed : all_allowed start half_stamped ≡ true
-half_stamped_allowed =
-    with_update (core_after start (begin 1 0)) 1 11
-    (two_updates ++ (call_commit 1 ∷ event.Point 1 done.Commit 7 ∷ event.Stamp 1 ∷ begin 2 1))
-    (may_update (core_after start (begin 1 0)) 1 11 refl _ _ refl refl refl refl) refl
+half_stamped_allowed = refl
 
 -- what session 2 reads then, and what it reads where it began before the Point
 abbrev rows_read : List Event → ℕ → List (Option (List Value))
 rows_read events session = reads (core_after start events) session 0
 
-half_stamped_reads : rows_read half_stamped 2 ≡ Some (value.Big (pos 11) ∷ []) ∷ Some (value.Big (pos 11) ∷ []) ∷ []
+half_stamped_reads : rows_read half_stamped 2 ≡ None ∷ None ∷ []
 half_stamped_reads = refl
 
 -- the machine allows these entries
@@ -175,14 +123,10 @@ half_stamped_is_legal = legal_over_every_list opened 1 32 half_stamped half_stam
 abbrev begun_before : List Event
 begun_before =
     begin 1 0 ++
-    (update 1 11 ∷
-    (two_updates ++ (call_commit 1 ∷ (begin 2 0 ++ (event.Point 1 done.Commit 7 ∷ event.Stamp 1 ∷ [])))))
+    (two_deletes ++ (call_commit 1 ∷ (begin 2 0 ++ (event.Point 1 done.Commit 7 ∷ event.Stamp 1 ∷ []))))
 
 begun_before_allowed : all_allowed start begun_before ≡ true
-begun_before_allowed =
-    with_update (core_after start (begin 1 0)) 1 11
-    (two_updates ++ (call_commit 1 ∷ (begin 2 0 ++ (event.Point 1 done.Commit 7 ∷ event.Stamp 1 ∷ []))))
-    (may_update (core_after start (begin 1 0)) 1 11 refl _ _ refl refl refl refl) refl
+begun_before_allowed = refl
 
 begun_before_reads : rows_read begun_before 2 ≡ Some (value.Big (pos 10) ∷ []) ∷ Some (value.Big (pos 20) ∷ []) ∷ []
 begun_before_reads = refl

@@ -121,6 +121,14 @@ find_other test sessions number any =
 
 -- no meaning is a conflict
 never_same : (own : Refusal) (table row : ℕ) (by : Holder) → is_same_refusal own (why.Conflict table row by) ≡ true → ⊥
+never_same (why.NoTable at) table row by e = false≢true e
+never_same (why.NoColumn at) table row by e = false≢true e
+never_same (why.TypeMismatch at) table row by e = false≢true e
+never_same (why.SameColumn at) table row by e = false≢true e
+never_same (why.NotGrouped at) table row by e = false≢true e
+never_same (why.TableExists at) table row by e = false≢true e
+never_same why.TooManyTables table row by e = false≢true e
+never_same (why.OutOfRange at) table row by e = false≢true e
 never_same why.Unsupported table row by e = false≢true e
 never_same (why.TooLarge bytes rows) table row by e = false≢true e
 never_same other table row by e = false≢true e

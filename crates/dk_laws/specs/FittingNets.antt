@@ -1,10 +1,9 @@
 -- Rows that fit their tables, and nets that fit a database.
 use Rattle.std.specs.Prelude.{ℕ, ◌^◌, Bool, true, false, ◌&&◌, ◌==◌, List, [], length, Some}
-use Rattle.std.specs.Prelude.{None, nat_lt, slice_get, ◌≡◌}
+use Rattle.std.specs.Prelude.{nat_lt, slice_get, ◌≡◌}
 use Rattle.std.specs.List.{All, list_all, list_any}
 use Rattle.std.specs.Str.{is_utf8}
 use lib.Pointwise.{pointwise}
-use Rattle.dk_values.specs.Columns.{schema_fault}
 use Rattle.dk_values.specs.declared.column.Column.{Column}
 use Rattle.dk_values.specs.declared.value.ColType.{ColType}
 use Rattle.dk_values.specs.declared.value.ColType.TheVariants as type
@@ -21,7 +20,7 @@ use Rattle.dk_si.specs.Database.{after, present}
 use Rattle.dk_si.specs.IsStep.{are_steps}
 use Rattle.dk_si.specs.Laws.{state_after}
 use Rattle.dk_si.specs.Machine.{first_state}
-use Rattle.dk_si.specs.Meaning.{creation_refusal}
+use Rattle.dk_si.specs.Meaning.{may_create}
 use Rattle.dk_si.specs.Nets.{has_id, is_empty, part_has, rises}
 use Rattle.dk_si.specs.RowLaws.{has_row}
 use Rattle.dk_laws.specs.SessionLaws.{IsOpen}
@@ -73,9 +72,7 @@ pub record FitsNet (tables : List Table) (net : List TableNet) : Type 0 where
 -- may be made there
 abbrev pub FitsCommit : List Table → Commit → Type 0
 FitsCommit tables (Change net) = (is_empty net ≡ false) × FitsNet tables net
-FitsCommit tables (Create name schema) =
-    (creation_refusal (λ table. table.name) tables name schema ≡ None)
-    × (schema_fault schema ≡ None)
+FitsCommit tables (Create name schema) = may_create tables name schema ≡ true
 
 -- where the rows of the opened database fit, each row fits its table after each number of commits
 abbrev pub RowsFit : Type 0

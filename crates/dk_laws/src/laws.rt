@@ -8,13 +8,11 @@ ghost use Rattle.dk_laws.specs.SessionLaws.{OthersLeaveASession, OthersLeaveAMea
 
 /// A SELECT means rows, a change a change, a creation a creation, each or a refusal, and all others
 /// mean nothing.
-#[tactic(auto, using(crate::proofs::KindLemmas::meanings_suit_kinds))]
 pub fn meanings_suit_kinds()
     ensures { MeaningsSuitKinds }
 {}
 
 /// Each refusal that a statement may mean may be replied.
-#[tactic(auto, using(crate::proofs::KindLemmas::refusals_may_be_replied))]
 pub fn refusals_may_be_replied()
     ensures { RefusalsMayBeReplied }
 {}

@@ -137,11 +137,12 @@ fn is_meant_refusal(meant: &Meaning, refusal: &Refusal) -> bool
 fn are_meant_rows(alloc: Global, meant: &Meaning, others: &Rows) -> Result<bool, OutOfMemory>
     ensures { IfOk result (λ so. so ≡ are_meant_rows meant.now others.now) }
 {
+    let Meaning::Rows { rows } = meant else {
+        return Ok(false);
+    };
+    let rows = rows.to_list(alloc)?;
     let others = others.to_list(alloc)?;
-    match meant {
-        Meaning::Rows { rows } => Ok(same_rows(rows.as_slice(), others.as_slice())),
-        _ => Ok(false),
-    }
+    Ok(same_rows(rows.as_slice(), others.as_slice()))
 }
 
 /// The reply to a query.

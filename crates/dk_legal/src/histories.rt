@@ -103,7 +103,10 @@ const NO_TRANSACTION: Act<'static> = Act::Refused(Refusal::NoTransaction);
 
 const IN_TRANSACTION: Act<'static> = Act::Refused(Refusal::InTransaction);
 
-const UNSUPPORTED: Act<'static> = Act::Refused(Refusal::Unsupported);
+/// The names of all statements stand at this place of their texts.
+const NO_TABLE: Act<'static> = Act::Refused(Refusal::NoTable { at: 7 });
+
+const TABLE_EXISTS: Act<'static> = Act::Refused(Refusal::TableExists { at: 7 });
 
 /// A transaction that was refused for a row does nothing until its ROLLBACK.
 const BEHIND_CONFLICT: &[Case] = &[
@@ -212,12 +215,12 @@ const FIRST_ACTS: &[Case] = &[
         &[
             (1, Act::SelectMissing),
             (1, Act::Begun(0, 0)),
-            (1, UNSUPPORTED),
+            (1, NO_TABLE),
         ],
     ),
     (
         false,
-        &[(1, Act::Select), (1, Act::Begun(0, 0)), (1, UNSUPPORTED)],
+        &[(1, Act::Select), (1, Act::Begun(0, 0)), (1, NO_TABLE)],
     ),
     // a transaction can begin
     (false, &[(1, Act::Begin), (1, Act::Spent(0, 0))]),
@@ -412,7 +415,7 @@ const CREATED: Acts = &[
 const NEW_TABLES: &[Case] = &[
     (
         true,
-        &[(1, Act::Create), (1, Act::Begun(1, 1)), (1, UNSUPPORTED)],
+        &[(1, Act::Create), (1, Act::Begun(1, 1)), (1, TABLE_EXISTS)],
     ),
     (
         false,

@@ -1,57 +1,10 @@
-//! What `dk_si` computes: the tests of a creation and an insertion, and what is carried of stops and iterations.
+//! What `dk_si` computes: what is carried of stops and iterations.
 use dk_si::limits::MAX_ITERATION;
-use dk_si::meaning::{creation_refusal, fits};
-use dk_si::names::place_of;
 use dk_si::standing::Standing;
-use dk_si::{Asked, Entry, Table};
-use dk_types::{Bytes, ColType, Column, List, OutOfMemory, Reply, Row, Schema, Statement, Value};
+use dk_si::{Asked, Entry};
+use dk_types::{OutOfMemory, Reply, Statement};
 use std::alloc::Global;
 use std::test::Fail;
-
-fn bytes(alloc: Global, text: &[u8]) -> Result<Bytes, OutOfMemory> {
-    Ok(List::from_vec(Vec::from_slice(alloc, text)?))
-}
-
-fn columns(alloc: Global, kind: ColType) -> Result<Vec<Column>, OutOfMemory> {
-    let mut columns = Vec::new(alloc);
-    columns.push(Column {
-        name: bytes(alloc, b"a")?,
-        kind,
-    })?;
-    Ok(columns)
-}
-
-fn row(alloc: Global, value: Value) -> Result<Row, OutOfMemory> {
-    let mut row = List::new(alloc);
-    row.push(value)?;
-    Ok(row)
-}
-
-#[test]
-fn what_a_table_may_be_and_hold(rt: HostRuntime) -> Result<(), Fail> {
-    let alloc = rt.alloc();
-    let mut tables = Vec::new(alloc);
-    let big = columns(alloc, ColType::Big)?;
-    let Ok(schema) = Schema::new(columns(alloc, ColType::Big)?) else {
-        return Ok(());
-    };
-    assert!(rt; creation_refusal(&tables, b"t", &big).is_none());
-    tables.push(Table {
-        name: bytes(alloc, b"t")?,
-        schema,
-        rows: List::new(alloc),
-    })?;
-    assert!(rt; creation_refusal(&tables, b"t", &big).is_some());
-    assert!(rt; creation_refusal(&tables, b"u", &big).is_none());
-    assert!(rt; creation_refusal(&tables, b"u", &columns(alloc, ColType::Text)?).is_some());
-    assert!(rt; place_of(&tables, b"t") == Some(0));
-    let mut tuples = Vec::new(alloc);
-    tuples.push(row(alloc, Value::Big(1))?)?;
-    assert!(rt; fits(&big, &tuples));
-    tuples.push(row(alloc, Value::Null)?)?;
-    assert!(rt; !fits(&big, &tuples));
-    Ok(())
-}
 
 fn checkpoint(session: u32) -> Entry {
     Entry::Call {

@@ -35,10 +35,13 @@ pub fn has_no_memory(reply: &Reply) -> bool
 }
 
 /// Whether a text is refused that is outside the grammar, which ends at this byte.
-pub fn is_outside_grammar(_at: u64, reply: &Reply) -> bool
-    ensures { result ≡ is_refused (is_text_refusal _at) reply.now }
+pub fn is_outside_grammar(at: u64, reply: &Reply) -> bool
+    ensures { result ≡ is_refused (is_text_refusal at) reply.now }
 {
-    matches!(reply, Reply::Refused(Refusal::Unsupported))
+    match reply {
+        Reply::Refused(Refusal::Syntax { at: place }) => *place == at,
+        _ => false,
+    }
 }
 
 /// Whether a call is refused since no further transaction can begin.
@@ -76,6 +79,14 @@ pub fn is_same_refusal(refusal: &Refusal, other: &Refusal) -> bool
     ensures { result ≡ is_same_refusal refusal.now other.now }
 {
     match (refusal, other) {
+        (Refusal::NoTable { at }, Refusal::NoTable { at: other }) => *at == *other,
+        (Refusal::NoColumn { at }, Refusal::NoColumn { at: other }) => *at == *other,
+        (Refusal::TypeMismatch { at }, Refusal::TypeMismatch { at: other }) => *at == *other,
+        (Refusal::SameColumn { at }, Refusal::SameColumn { at: other }) => *at == *other,
+        (Refusal::NotGrouped { at }, Refusal::NotGrouped { at: other }) => *at == *other,
+        (Refusal::TableExists { at }, Refusal::TableExists { at: other }) => *at == *other,
+        (Refusal::TooManyTables, Refusal::TooManyTables) => true,
+        (Refusal::OutOfRange { row }, Refusal::OutOfRange { row: other }) => *row == *other,
         (Refusal::Unsupported, Refusal::Unsupported) => true,
         (
             Refusal::TooLarge { bytes, rows },

@@ -280,8 +280,8 @@ told_unread : (opened : List Table) (commits : List Commit) (active : OpenTransa
 told_unread opened commits active = refused_moves active (Some Unread) why.OutOfMemory false false (and_false active.fresh) refl
 
 told_bad : (opened : List Table) (commits : List Commit) (active : OpenTransaction) (at : ℕ)
-    → Is opened commits active (Bad at) (stay (told.Refused why.Unsupported))
-told_bad opened commits active at = refused_moves active (Some (Bad at)) why.Unsupported false false (and_false active.fresh) refl
+    → Is opened commits active (Bad at) (stay (told.Refused (why.Syntax at)))
+told_bad opened commits active at = refused_moves active (Some (Bad at)) (why.Syntax at) false false (and_false active.fresh) refl
 
 open_is : (opened : List Table) (iteration : ℕ) (machine : Machine) (number : ℕ) (active : OpenTransaction) (asked : Asked)
     → Is opened machine.commits active asked (outcome opened iteration machine number (state.Open active) asked)

@@ -153,7 +153,7 @@ statement_outcome opened iteration machine number (transaction.Open active) stat
 -- a call of a session in that transaction, where the last iteration so far is this one
 abbrev pub outcome : List Table → ℕ → Machine → ℕ → Transaction → Asked → Outcome
 outcome opened iteration machine number transaction Unread = stay (reply.Refused refusal.OutOfMemory)
-outcome opened iteration machine number transaction (Bad at) = stay (reply.Refused refusal.Unsupported)
+outcome opened iteration machine number transaction (Bad at) = stay (reply.Refused (refusal.Syntax at))
 outcome opened iteration machine number transaction (Good statement) =
     statement_outcome opened iteration machine number transaction statement
 

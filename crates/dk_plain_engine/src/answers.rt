@@ -27,9 +27,7 @@ use dk_si::kind::Kind;
 use dk_si::limits::{MAX_ITERATION, MAX_ROWS, MAX_TRANSACTIONS};
 use dk_si::machine::{OpenTransaction, Session, Transaction, WriteSet};
 use dk_si::meaning::Meaning;
-use dk_types::{
-    Commit, Exhausted, Net, OutOfMemory, Receipt, Refusal, Reply, Rows, Statement, TableNet,
-};
+use dk_types::{Commit, Exhausted, Net, OutOfMemory, Receipt, Refusal, Reply, Statement, TableNet};
 use std::alloc::Global;
 
 /// Each transaction that is open, and the one that would begin, may have so many new rows.
@@ -136,23 +134,16 @@ fn create_outcome(commits: &[Commit], meant: Meaning) -> Outcome
     }
 }
 
-fn select_outcome(
-    alloc: Global,
-    active: &OpenTransaction,
-    meant: Meaning,
-) -> Result<Outcome, OutOfMemory>
-    ensures { IfOk result (λ outcome. outcome ≡ select_outcome active.now meant) }
+fn select_outcome(active: &OpenTransaction, meant: Meaning) -> Outcome
+    ensures { result ≡ select_outcome active.now meant }
 {
     match meant {
-        Meaning::Rows { rows } => {
-            let rows = Rows::from_list(alloc, &rows)?;
-            Ok(Outcome {
-                reply: Reply::Rows { rows },
-                effect: own_effect(active, Kind::Select),
-            })
-        }
-        Meaning::Refused(refusal) => Ok(refuse(active, Kind::Select, refusal)),
-        _ => Ok(refuse(active, Kind::Select, Refusal::Unsupported)),
+        Meaning::Rows { rows } => Outcome {
+            reply: Reply::Rows { rows },
+            effect: own_effect(active, Kind::Select),
+        },
+        Meaning::Refused(refusal) => refuse(active, Kind::Select, refusal),
+        _ => refuse(active, Kind::Select, Refusal::Unsupported),
     }
 }
 
@@ -320,7 +311,7 @@ fn open_outcome(
         }),
         Kind::Select => {
             let meant = meaning_of(alloc, &inside, scene.tables, statement)?;
-            select_outcome(alloc, active, meant)
+            Ok(select_outcome(active, meant))
         }
         Kind::Change => {
             let meant = meaning_of(alloc, &inside, scene.tables, statement)?;
@@ -383,7 +374,7 @@ pub fn outcome(
 {
     match asked {
         Asked::Unread => Ok(stay(Reply::Refused(Refusal::OutOfMemory))),
-        Asked::Bad { .. } => Ok(stay(Reply::Refused(Refusal::Unsupported))),
+        Asked::Bad { at } => Ok(stay(Reply::Refused(Refusal::Syntax { at: *at }))),
         Asked::Good(statement) => statement_outcome(
             alloc,
             scene,

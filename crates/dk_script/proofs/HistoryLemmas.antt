@@ -13,7 +13,7 @@ use Rattle.dk_alone.specs.AnswerHistory.{calls_of}
 use Rattle.dk_script.specs.Calls.{IsRead, AreRead}
 use Rattle.dk_script.specs.Histories.{name_told, entry_text, history_text, trouble_after, trouble_behind}
 use Rattle.dk_script.specs.RunnerCalls.{Start, exchange, state_replied}
-use Rattle.dk_script.specs.Texts.{session_text}
+use Rattle.dk_texts.specs.Texts.{session_text}
 use Rattle.dk_script.specs.declared.trouble.Trouble.{Trouble}
 
 pub text_append : (front more : List Entry) (machine : Machine)

@@ -23,7 +23,7 @@ use Rattle.dk_script.specs.Requests.{request_of}
 use Rattle.dk_script.specs.RunnerCalls.{AnswersCall, exchange}
 use Rattle.dk_script.specs.Script.{Line, is_good, short_request, requests_of}
 use Rattle.dk_script.specs.Sinks.{HasCauseIn}
-use Rattle.dk_script.specs.Texts.{session_text}
+use Rattle.dk_texts.specs.Texts.{session_text}
 use Rattle.dk_script.specs.declared.trouble.Trouble.{Trouble}
 use Rattle.dk_script.proofs.HistoryLemmas.{exchange_text, exchange_read, exchange_trouble}
 use Rattle.dk_script.proofs.ScriptLemmas.{one_asked, requests_first}

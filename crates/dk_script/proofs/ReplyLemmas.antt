@@ -9,7 +9,7 @@ use Rattle.dk_types.specs.declared.reply.Reply.{Reply}
 use Rattle.dk_types.specs.declared.reply.Reply.TheVariants.{Created, Changed, Rows, Begun, Committed, Ended, Checkpointed, Refused}
 use Rattle.dk_script.specs.ReplyTexts.{words_text, head_text, body_text}
 use Rattle.dk_script.specs.Paging.{Paged}
-use Rattle.dk_script.specs.Texts.{session_text, reply_text}
+use Rattle.dk_texts.specs.Texts.{session_text, reply_text}
 use Rattle.dk_script.proofs.PageLemmas.{leaves_front}
 
 reply_parts : (name : List ℕ) (reply : Reply)

@@ -11,7 +11,7 @@ use Rattle.dk_si.specs.Answer.{timeless}
 use Rattle.dk_si.specs.Machine.{next}
 use Rattle.dk_alone.specs.AnswerHistory.{timeless_entry, transaction_at}
 use Rattle.dk_script.specs.Histories.{tables_in, reply_name, entry_text, history_text}
-use Rattle.dk_script.specs.Texts.{session_text, reply_text}
+use Rattle.dk_texts.specs.Texts.{session_text, reply_text}
 use Rattle.dk_alone.proofs.OnlyAnswerLemmas.{next_timeless}
 
 one_timeless : (machine : Machine) (one : Entry) → next [] machine (timeless_entry one) ≡ next [] machine one

@@ -16,7 +16,7 @@ use Rattle.dk_si.specs.declared.machine.Transaction.TheVariants as transaction
 use Rattle.dk_si.specs.Database.{view}
 use Rattle.dk_si.specs.Machine.{next}
 use Rattle.dk_alone.specs.AnswerHistory.{transaction_at}
-use Rattle.dk_script.specs.Texts.{session_text}
+use Rattle.dk_texts.specs.Texts.{session_text}
 use Rattle.dk_script.specs.declared.trouble.Trouble.{Trouble}
 use Rattle.dk_script.specs.declared.trouble.Trouble.TheVariants as trouble
 

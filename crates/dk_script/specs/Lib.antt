@@ -1,7 +1,6 @@
 pub mod Requests
 pub mod GrammarLines
 pub mod Calls
-pub mod Texts
 pub mod ReplyTexts
 pub mod Histories
 pub mod RunnerCalls

@@ -1,6 +1,6 @@
 -- The texts of answers, one after another.
 use Rattle.std.specs.Prelude.{ℕ, List, [], unwrap_or, flat_map}
-use Rattle.dk_script.specs.Texts.{session_text}
+use Rattle.dk_texts.specs.Texts.{session_text}
 use Rattle.dk_script.specs.declared.plain.SessionAnswer.{SessionAnswer}
 
 abbrev pub answers_text : List SessionAnswer → List ℕ

@@ -2,7 +2,7 @@
 use Rattle.std.specs.Prelude.{ℕ, List, [], ◌++◌, length, codes, decimal}
 use Rattle.dk_types.specs.declared.reply.Reply.{Reply}
 use Rattle.dk_types.specs.declared.reply.Reply.TheVariants.{Created, Changed, Rows, Begun, Committed, Ended, Checkpointed, Refused}
-use Rattle.dk_script.specs.Texts.{refusal_text, rows_text}
+use Rattle.dk_texts.specs.Texts.{refusal_text, rows_text}
 
 -- its words, where that is the name of the table that it is about
 abbrev pub words_text : List ℕ → Reply → List ℕ

@@ -12,9 +12,9 @@
 //! `dk_sql`, and what a statement means is the machine's, in `dk_si`. [`plain::plain_output`] writes the texts of a list
 //! of answers plainly, to compare with.
 //!
-//! The crate stands on `dk_plain_engine`, `dk_sql`, on the laws of `dk_alone` and the machine of `dk_si`, on the types and
-//! rows of `dk_types`, `dk_syntax`, `dk_rows` and `dk_values`, on the sources, sinks and lines of `dk_io`, the faults of
-//! `dk_fault`, the disk's trait of `dk_device`, and on `itoa`.
+//! The crate stands on `dk_plain_engine`, `dk_sql`, on the texts of replies in `dk_texts`, on the laws of `dk_alone` and the
+//! machine of `dk_si`, on the types and rows of `dk_types`, `dk_syntax`, `dk_rows` and `dk_values`, on the sources, sinks
+//! and lines of `dk_io`, the faults of `dk_fault`, the disk's trait of `dk_device`, and on `itoa`.
 #![tactic(auto)]
 
 mod engine_runner;
@@ -27,5 +27,4 @@ pub mod runner;
 pub mod serve;
 #[cfg(test)]
 mod tests;
-mod text;
 mod trouble;

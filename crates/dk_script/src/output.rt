@@ -1,15 +1,15 @@
 //! Replies on their way to a sink: a page of some tens of kilobytes at a time.
 ghost use Rattle.std.specs.Prelude.{◌≡◌, ◌++◌, [], decimal, unwrap_or, OnOk, OnErr};
 ghost use Rattle.dk_fault.specs.Causes.{HasCause};
-ghost use Rattle.dk_script.specs.Texts.{row_text, rows_text, session_text};
+ghost use Rattle.dk_texts.specs.Texts.{row_text, rows_text, session_text};
 ghost use Rattle.dk_script.specs.LastLine.{bad_line_text, last_line};
 ghost use Rattle.dk_script.specs.ReplyTexts.{head_text, words_text, body_text};
 ghost use Rattle.dk_script.specs.Paging.{MayStop, WritesText};
 ghost use Rattle.dk_script.specs.Sinks.{Sends, SendsFront};
 
-use crate::text::{put, put_counted, put_number, put_refusal, put_row};
 use dk_io::{Failed, Sink, write_all};
 use dk_plain_engine::Answer;
+use dk_texts::{put, put_counted, put_number, put_refusal, put_row};
 use dk_types::{OutOfMemory, Reply, RowRef, Rows, Status};
 use itoa::Buffer;
 

@@ -6,11 +6,11 @@ ghost use Rattle.dk_script.specs.GrammarLines.{AreLines};
 ghost use Rattle.dk_script.specs.LastLine.{end_text};
 ghost use Rattle.dk_script.specs.PlainTexts.{answers_text};
 ghost use Rattle.dk_script.specs.ReplyTexts.{body_text};
-ghost use Rattle.dk_script.specs.Texts.{rows_text, session_text};
+ghost use Rattle.dk_texts.specs.Texts.{rows_text, session_text};
 
 use crate::output::put_head;
-use crate::text::{put, put_counted, put_row};
 use dk_plain_engine::Answer;
+use dk_texts::{put, put_counted, put_row};
 use dk_types::{Bytes, List, OutOfMemory, Reply, Rows};
 use std::alloc::Global;
 

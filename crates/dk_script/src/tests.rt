@@ -1,11 +1,11 @@
 //! Scripts, with the output that the language gives them, and runs that faults end.
 use crate::plain::{SessionAnswer, plain_output};
 use crate::serve::serve;
-use crate::text::{put, put_number};
 use crate::trouble::{Trouble, status_for, trouble_behind};
 use dk_device::MemoryDisk;
 use dk_io::{MemorySink, MemorySource, NoPause};
 use dk_plain_engine::Answer;
+use dk_texts::{put, put_number};
 use dk_types::{Exhausted, Holder, List, OutOfMemory, Receipt, Refusal, Reply, Status};
 use std::alloc::Global;
 use std::process::Abort;
@@ -120,7 +120,7 @@ fn lines_are_read(rt: HostRuntime) -> Result<(), Fail> {
         done(FIRST, b"1 created\n1 changed 2\n1 rows 2\n1\n2\n"),
         done(b"", b""),
         bad(b"1 SELECT * FROM t;\n", b"bad line 1\n", 1),
-        done(b"32: SELECT * FROM t;", b"32 unsupported\n"),
+        done(b"32: SELECT * FROM t;", b"32 no table at 14\n"),
         bad(b"0: BEGIN;\n", b"bad line 1\n", 1),
         bad(b"33: BEGIN;\n", b"bad line 1\n", 1),
         bad(b"01: BEGIN;\n", b"bad line 1\n", 1),
@@ -130,7 +130,7 @@ fn lines_are_read(rt: HostRuntime) -> Result<(), Fail> {
         bad(b" \n", b"bad line 1\n", 1),
         bad(
             b"\r\n-- \xff\n\n1: x;\r\n2:;\n1: x;\n",
-            b"1 unsupported\nbad line 5\n",
+            b"1 syntax error at 0\nbad line 5\n",
             5,
         ),
         bad(
@@ -138,8 +138,12 @@ fn lines_are_read(rt: HostRuntime) -> Result<(), Fail> {
             b"1 created\nbad line 2\n",
             2,
         ),
-        done(b"1: SELECT * FROM t; --;\n", b"1 unsupported\n"),
-        done(b"1: COPY t FROM STDIN;\n", b"1 unsupported\n"),
+        done(b"1: SELECT * FROM t; --;\n", b"1 syntax error at 15\n"),
+        done(b"1: COPY t FROM STDIN;\n", b"1 syntax error at 0\n"),
+        done(
+            b"1: CREATE TABLE t (a BIGINT);\n1: COPY t FROM STDIN;\n",
+            b"1 created\n1 syntax error at 0\n",
+        ),
     ];
     are_printed(&rt, rt.alloc(), &cases)
 }
@@ -153,15 +157,54 @@ fn statements_are_answered(rt: HostRuntime) -> Result<(), Fail> {
         ),
         done(
             b"1: CREATE TABLE t (a BIGINT);\n1: CREATE TABLE t (b BIGINT);\n1: CREATE TABLE u (a BIGINT, a BIGINT);\n1: CREATE TABLE sum (a BIGINT);\n",
-            b"1 created\n1 unsupported\n1 unsupported\n1 unsupported\n",
+            b"1 created\n1 table exists at 13\n1 same column at 26\n1 syntax error at 13\n",
         ),
         done(
             b"1: CREATE TABLE t (a BIGINT);\n1: INSERT INTO t VALUES (1,2);\n1: INSERT INTO x VALUES (1);\n1: SELECT * FROM t;\n",
-            b"1 created\n1 unsupported\n1 unsupported\n1 rows 0\n",
+            b"1 created\n1 type mismatch at 21\n1 no table at 12\n1 rows 0\n",
         ),
         done(
             b"1: CREATE TABLE t (a BIGINT);\n1: INSERT INTO t VALUES (1),(2);\n1: UPDATE t SET a = 9;\n1: SELECT * FROM t;\n1: DELETE FROM t;\n1: SELECT * FROM t;\n1: CHECKPOINT;\n1: CHECKPOINT;\n",
             b"1 created\n1 changed 2\n1 changed 2\n1 rows 2\n9\n9\n1 changed 2\n1 rows 0\n1 checkpointed 2\n1 checkpointed 3\n",
+        ),
+    ];
+    are_printed(&rt, rt.alloc(), &cases)
+}
+
+#[test]
+fn queries_are_answered(rt: HostRuntime) -> Result<(), Fail> {
+    let cases = [
+        // Every type; rows in the order of a column, NULL lowest; texts with signs of their own.
+        done(
+            b"1: CREATE TABLE t (a INTEGER, b VARCHAR, c BOOLEAN);\n1: INSERT INTO t VALUES (2,'x,y',TRUE),(NULL,'''',FALSE),(-1,NULL,NULL);\n1: SELECT * FROM t ORDER BY a;\n1: SELECT c, a + 1 FROM t WHERE b IS NOT NULL;\n1: SELECT b FROM t WHERE a < 0;\n",
+            b"1 created\n1 changed 3\n1 rows 3\n,',false\n-1,,\n2,\"x,y\",true\n1 rows 2\ntrue,3\nfalse,\n1 rows 1\n\"\"\n",
+        ),
+        // Groups with aggregates, what they are ordered by, and how many.
+        done(
+            b"1: CREATE TABLE t (a BIGINT, b BIGINT);\n1: INSERT INTO t VALUES (1,10),(2,20),(1,30),(NULL,5),(2,NULL);\n1: SELECT a, count(*), count(b), sum(b), min(b), max(b) FROM t GROUP BY a;\n1: SELECT a FROM t GROUP BY a ORDER BY a DESC LIMIT 2;\n1: SELECT count(*), sum(b) FROM t WHERE a > 2;\n",
+            b"1 created\n1 changed 5\n1 rows 3\n,1,1,5,5,5\n1,2,2,40,10,30\n2,2,1,20,20,20\n1 rows 2\n2\n1\n1 rows 1\n0,\n",
+        ),
+        // A filter keeps the rows of a change, and a query gives those of an insertion.
+        done(
+            b"1: CREATE TABLE t (a BIGINT, b INTEGER);\n1: INSERT INTO t VALUES (1,1),(2,2),(3,3);\n1: UPDATE t SET a = b * 10, b = a + 1 WHERE a >= 2;\n1: DELETE FROM t WHERE b = 3;\n1: INSERT INTO t SELECT b, a FROM t WHERE a = 30;\n1: SELECT * FROM t;\n",
+            b"1 created\n1 changed 3\n1 changed 2\n1 changed 1\n1 changed 1\n1 rows 3\n1,1\n30,4\n4,30\n",
+        ),
+    ];
+    are_printed(&rt, rt.alloc(), &cases)
+}
+
+#[test]
+fn values_that_do_not_fit_are_refused(rt: HostRuntime) -> Result<(), Fail> {
+    let cases = [
+        // 32 bits hold an INTEGER: the number of the tuple, or the id of the row.
+        done(
+            b"1: CREATE TABLE t (a INTEGER);\n1: INSERT INTO t VALUES (2147483647),(2147483648);\n1: INSERT INTO t VALUES (2147483647),(5);\n1: DELETE FROM t WHERE a = 5;\n1: INSERT INTO t VALUES (7);\n1: UPDATE t SET a = a * 1000000000 WHERE a < 10;\n1: SELECT a * a * a FROM t;\n1: SELECT * FROM t WHERE a < 10 OR a IS NULL;\n",
+            b"1 created\n1 out of range row 1\n1 changed 2\n1 changed 1\n1 changed 1\n1 out of range row 2\n1 out of range row 0\n1 rows 1\n7\n",
+        ),
+        // The first refusal by its place in the text.
+        done(
+            b"1: CREATE TABLE t (a BIGINT, b VARCHAR);\n1: SELECT a, x FROM t WHERE y;\n1: SELECT a + b FROM t;\n1: SELECT * FROM t GROUP BY a;\n1: INSERT INTO t VALUES (1, 2);\n1: UPDATE t SET a = 1, a = 2;\n1: SELECT a FROM t WHERE;\n",
+            b"1 created\n1 no column at 10\n1 type mismatch at 9\n1 not grouped at 7\n1 type mismatch at 25\n1 same column at 20\n1 syntax error at 21\n",
         ),
     ];
     are_printed(&rt, rt.alloc(), &cases)
@@ -330,7 +373,10 @@ fn a_source_is_asked_no_more_once_it_has_ended(rt: HostRuntime) -> Result<(), Fa
     // Two calls give the six bytes, the third says that there are no more, and a fourth would fail.
     let source = MemorySource::new(bytes(alloc, b"1: x;\r")?, vec![in alloc; 3]?, 3);
     let printed = run_over(alloc, &["run"], source, MemorySink::new(Vec::new(alloc), 3))?;
-    assert_eq!(rt; printed.output.as_slice(), b"1 unsupported\n".as_slice());
+    assert_eq!(rt;
+        printed.output.as_slice(),
+        b"1 syntax error at 0\n".as_slice()
+    );
     assert_eq!(rt; printed.status, Status::Done);
     Ok(())
 }
@@ -359,7 +405,10 @@ fn a_line_ends_at_its_limit(rt: HostRuntime) -> Result<(), Fail> {
     let mut script = bytes(alloc, b"1:")?;
     script.append(&mut line)?;
     let printed = run_long(alloc, script)?;
-    assert_eq!(rt; printed.output.as_slice(), b"1 unsupported\n".as_slice());
+    assert_eq!(rt;
+        printed.output.as_slice(),
+        b"1 syntax error at 16777211\n".as_slice()
+    );
     assert_eq!(rt; printed.status, Status::Done);
     let mut script = vec![in alloc; b'1'; 16_777_217]?;
     script.extend_from_slice(b"\n")?;

@@ -7,6 +7,7 @@ pub mod FreshLemmas
 pub mod FrontLemmas
 pub mod GrowthLemmas
 pub mod HolderLemmas
+pub mod MeaningCaseLemmas
 pub mod MeaningLemmas
 pub mod MergedNetLemmas
 pub mod NetLemmas

@@ -1,25 +1,21 @@
 -- A statement updates and deletes rows that are there.
-use Rattle.std.proofs.Common.{◌≡◌, ⊎_elim, ℕ, suc, ◌+◌, Bool, true, false, List, [], ◌∷◌, length, map, Option, Some, None, ap, ◌∙◌, sym, refl, subst, arith, slice_get, append-nil}
-use Rattle.std.specs.Prelude.{is_none, ◌&&◌, ◌==◌, if◌then◌else◌}
+use Rattle.std.proofs.Common.{◌≡◌, ⊎_elim, ℕ, suc, ◌+◌, Bool, true, false, List, [], ◌∷◌, map, Option, Some, None, ap, ◌∙◌, sym, refl, subst, arith, slice_get, append-nil}
+use Rattle.std.specs.Prelude.{◌==◌, option_map, Result, Ok, Err}
 use Rattle.std.proofs.lemmas.Bool.{false≢true, or_cases, eqb-true}
-use Rattle.dk_values.specs.declared.value.Value.{Value}
 use Rattle.dk_values.specs.declared.column.Column.{Column}
-use Rattle.dk_syntax.specs.declared.statement.Set.{Set}
-use Rattle.dk_syntax.specs.declared.statement.Statement.{Statement}
-use Rattle.dk_syntax.specs.declared.statement.Statement.TheVariants as ask
+use Rattle.dk_values.specs.declared.value.Value.{Value}
+use Rattle.dk_types.specs.declared.bound.BoundExpr.{BoundExpr}
+use Rattle.dk_types.specs.declared.bound.BoundSet.{BoundSet}
+use Rattle.dk_query.specs.Kept.{passes}
 use Rattle.dk_si.specs.declared.database.Table.{Table}
+use Rattle.dk_si.specs.declared.kind.Kind.{Kind}
 use Rattle.dk_si.specs.declared.meaning.Meaning.{Meaning}
 use Rattle.dk_si.specs.declared.meaning.Meaning.TheVariants.{Rows, Change, Create, Refused, Nothing}
-use Rattle.dk_values.specs.Columns.{schema_fault}
-use Rattle.dk_types.specs.declared.reply.Refusal.{Refusal}
-use Rattle.dk_si.specs.Database.{place_of, present}
+use Rattle.dk_si.specs.Machine.{changed_ids, kind_of}
 use Rattle.dk_si.specs.Nets.{has_id}
-use Rattle.dk_si.specs.Machine.{changed_ids}
-use Rattle.dk_si.specs.Meaning.{insert_rows, rows_of, is_whole, columns_of, creation_refusal, meaning, unbuilt, in_place, at_place, present_with_ids, present_from, set_rows, fits, all_big, can_set}
+use Rattle.dk_si.specs.Picked.{picked, with_pick, if_kept, new_row, with_sets, gone_id}
 use Rattle.dk_si.specs.RowLaws.{has_row, table_has_row, ChangedRowsAreThere}
-
-abbrev ids_of : List (ℕ × List Value) → List ℕ
-ids_of rows = map (λ row. row.0) rows
+use Rattle.dk_si.proofs.MeaningCaseLemmas.{HoldsOfForms, meaning_holds}
 
 -- a row that is there at a place, counted on from n
 record Found (n : ℕ) (rows : List (Option (List Value))) (id : ℕ) : Type 0 where
@@ -27,90 +23,106 @@ record Found (n : ℕ) (rows : List (Option (List Value))) (id : ℕ) : Type 0 w
   is : n + place ≡ id
   there : has_row rows place ≡ true
 
-behind : (n id : ℕ) (first : Option (List Value)) (rows : List (Option (List Value))) → Found (n + 1) rows id → Found n (first ∷ rows) id
-behind n id first rows rest = record { place = suc rest.place; is = (let is = rest.is in omega arith); there = rest.there }
+behind_first : (n id : ℕ) (first : Option (List Value)) (rows : List (Option (List Value))) → Found (n + 1) rows id
+    → Found n (first ∷ rows) id
+behind_first n id first rows rest =
+    record { place = suc rest.place; is = (let is = rest.is in omega arith); there = rest.there }
 
-found_there : (n id : ℕ) (rows : List (Option (List Value))) → has_id (ids_of (present_from n rows)) id ≡ true → Found n rows id
-found_there n id [] has = absurd (false≢true has)
-found_there n id (None ∷ rows) has = behind n id None rows (found_there (n + 1) id rows has)
-found_there n id (Some row ∷ rows) has = ⊎_elim
-    (λ here. record { place = 0; is = (let is = eqb-true n id here in omega arith); there = refl })
-    (λ there. behind n id (Some row) rows (found_there (n + 1) id rows there))
-    (or_cases (n == id) (has_id (ids_of (present_from (n + 1) rows)) id) has)
+-- what comes of a row has its id
+abbrev NamesRows : {T : Type 0} → (ℕ → List Value → Option (Option T)) → (T → ℕ) → Type 0
+NamesRows {T} of id_of = (n : ℕ) (row : List Value) (x : T) → of n row ≡ Some (Some x) → id_of x ≡ n
 
-found_has : (rows : List (Option (List Value))) (id : ℕ) → has_id (ids_of (present_with_ids rows)) id ≡ true → has_row rows id ≡ true
-found_has rows id has =
-    let at = found_there 0 id rows has in
-    let is = at.is in
-    let place : at.place ≡ id = omega arith in
-    subst (λ n. has_row rows n ≡ true) place at.there
+module _ {T : Type 0} (of : ℕ → List Value → Option (Option T)) (id_of : T → ℕ) (names : NamesRows of id_of) (id : ℕ) where
+  picked_there : (n : ℕ) (rows : List (Option (List Value))) (picks : List T) → picked of n rows ≡ Ok picks
+      → has_id (map id_of picks) id ≡ true → Found n rows id
+  picked_there n [] picks is has =
+      let none : picks ≡ [] = cc in absurd (false≢true (ap (λ picks. has_id (map id_of picks) id) (sym none) ∙ has))
+  picked_there n (None ∷ rows) picks is has = behind_first n id None rows (picked_there (n + 1) rows picks is has)
+  picked_there n (Some row ∷ rows) picks is has =
+      at (of n row) (picked of (n + 1) rows) refl refl is (λ picks. picked_there (n + 1) rows picks)
+    where
+      at : (made : Option (Option T)) (others : Result (List T) ℕ) → of n row ≡ made → picked of (n + 1) rows ≡ others
+          → with_pick made n others ≡ Ok picks
+          → ((picks : List T) → picked of (n + 1) rows ≡ Ok picks → has_id (map id_of picks) id ≡ true
+          → Found (n + 1) rows id)
+          → Found n (Some row ∷ rows) id
+      at None others m rest is more = cc
+      at (Some None) others m rest is more = behind_first n id (Some row) rows (more picks (rest ∙ is) has)
+      at (Some (Some x)) (Err other) m rest is more = cc
+      at (Some (Some x)) (Ok others) m rest is more =
+          let whole : x ∷ others ≡ picks = cc in
+          let named = names n row x m in
+          ⊎_elim
+          (λ here. record {
+            place = 0;
+            is = (let same = eqb-true (id_of x) id here in omega (arith, named, same));
+            there = refl;
+          })
+          (λ there. behind_first n id (Some row) rows (more others rest there))
+          (or_cases (id_of x == id) (has_id (map id_of others) id)
+          (ap (λ picks. has_id (map id_of picks) id) whole ∙ has))
 
-same_ids : (schema : List Column) (sets : List Set) (rows : List (ℕ × List Value)) → ids_of (set_rows schema sets rows) ≡ ids_of rows
-same_ids schema sets [] = refl
-same_ids schema sets (row ∷ rows) = ap (λ ids. row.0 ∷ ids) (same_ids schema sets rows)
+  picked_has : (rows : List (Option (List Value))) (picks : List T) → picked of 0 rows ≡ Ok picks
+      → has_id (map id_of picks) id ≡ true → has_row rows id ≡ true
+  picked_has rows picks is has =
+      let at = picked_there 0 rows picks is has in
+      let is = at.is in
+      let place : at.place ≡ id = omega arith in
+      subst (λ n. has_row rows n ≡ true) place at.there
 
--- the rows that a change names are there
-abbrev AreThere : List Table → Meaning → Type 0
-AreThere tables (Change count part) = (id : ℕ) → has_id (changed_ids part) id ≡ true → table_has_row tables part.table id ≡ true
-AreThere tables (Rows rows) = Unit {0}
-AreThere tables (Create name schema) = Unit {0}
-AreThere tables (Refused refusal) = Unit {0}
-AreThere tables Nothing = Unit {0}
+new_rows_are_named : (columns : List Column) (sets : List BoundSet) (filter : Option BoundExpr)
+    → NamesRows (new_row columns sets filter) (λ update. update.0)
+new_rows_are_named columns sets filter n row x is = at (passes filter row) (with_sets columns row sets row) is
+  where
+    at : (keeps : Option Bool) (made : Option (List Value))
+        → if_kept keeps (option_map (λ new. (n, new)) made) ≡ Some (Some x) → x.0 ≡ n
+    at None made is = cc
+    at (Some false) made is = cc
+    at (Some true) None is = cc
+    at (Some true) (Some new) is = let same : (n, new) ≡ x = cc in ap (λ (x : ℕ × List Value). x.0) (sym same)
 
-there_if : (tables : List Table) (holds : Bool) (meant : Meaning) → AreThere tables meant → AreThere tables (if holds then meant else unbuilt)
-there_if tables true meant there = there
-there_if tables false meant there = tt
+gone_ids_are_named : (filter : Option BoundExpr) → NamesRows (gone_id filter) (λ id. id)
+gone_ids_are_named filter n row x is = at (passes filter row) is
+  where
+    at : (keeps : Option Bool) → if_kept keeps (Some n) ≡ Some (Some x) → x ≡ n
+    at None is = cc
+    at (Some false) is = cc
+    at (Some true) is = let same : n ≡ x = cc in sym same
 
 in_table_at : (tables : List Table) (place : ℕ) (table : Table) (id : ℕ) → slice_get tables place ≡ Some table
     → has_row table.rows id ≡ true → table_has_row tables place id ≡ true
-in_table_at tables place table id is has = ap (λ at. elim at as (λ x. Bool) [ None ↦ false | Some table ↦ has_row table.rows id ]) is ∙ has
+in_table_at tables place table id is has =
+    ap (λ at. elim at as (λ x. Bool) [ None ↦ false | Some table ↦ has_row table.rows id ]) is ∙ has
 
-insert_there : (tables : List Table) (rows : Option (List (List Value))) (place : ℕ) (table : Table) → AreThere tables (insert_rows rows place table)
-insert_there tables None place table = tt
-insert_there tables (Some rows) place table =
-    there_if tables (fits table.schema rows) (Change (length rows) (record { table = place; updates = []; deletes = []; rows = rows }))
-    (λ id has. absurd (false≢true has))
+-- the rows that a change names are there
+abbrev AreThere : List Table → Kind → Meaning → Type 0
+AreThere tables of (Change count part) = (id : ℕ) → has_id (changed_ids part) id ≡ true → table_has_row tables part.table id ≡ true
+AreThere tables of (Rows rows) = Unit {0}
+AreThere tables of (Create name schema) = Unit {0}
+AreThere tables of (Refused refusal) = Unit {0}
+AreThere tables of Nothing = Unit {0}
 
-place_there : (tables : List Table) (statement : Statement) (place : ℕ) (table : Table) → slice_get tables place ≡ Some table
-    → AreThere tables (in_place statement place table)
-place_there tables (ask.Insert spot tuples) place table is = insert_there tables (rows_of tuples) place table
-place_there tables (ask.Select query) place table is = there_if tables (is_whole query) (Rows (present table.rows)) tt
-place_there tables (ask.Update spot sets filter) place table is =
-    let updates = set_rows table.schema sets (present_with_ids table.rows) in
-    there_if tables (is_none filter && (all_big table.schema && can_set table.schema sets))
-    (Change (length (present_with_ids table.rows)) (record { table = place; updates = updates; deletes = []; rows = [] }))
-    (λ id has. in_table_at tables place table id is
-    (found_has table.rows id (sym (ap (λ ids. has_id ids id) (append-nil (ids_of updates) ∙ same_ids table.schema sets (present_with_ids table.rows))) ∙ has)))
-place_there tables (ask.Delete spot filter) place table is =
-    there_if tables (is_none filter)
-    (Change (length (present_with_ids table.rows)) (record { table = place; updates = []; deletes = ids_of (present_with_ids table.rows); rows = [] }))
-    (λ id has. in_table_at tables place table id is (found_has table.rows id has))
-place_there tables other place table is = tt
+map_id : (ids : List ℕ) → map (λ (id : ℕ). id) ids ≡ ids
+map_id [] = refl
+map_id (id ∷ ids) = ap (λ ids. id ∷ ids) (map_id ids)
 
-table_there : (tables : List Table) (statement : Statement) (place : ℕ) (at : Option Table) → slice_get tables place ≡ at
-    → AreThere tables (elim at as (λ x. Meaning) [ None ↦ unbuilt | Some table ↦ in_place statement place table ])
-table_there tables statement place None is = tt
-table_there tables statement place (Some table) is = place_there tables statement place table is
-
-at_there : (tables : List Table) (statement : Statement) (place : Option ℕ) → AreThere tables (at_place statement tables place)
-at_there tables statement None = tt
-at_there tables statement (Some place) = there_if tables _ _ (table_there tables statement place (slice_get tables place) refl)
-
-create_there : (tables : List Table) (found : Option Refusal) (name : List ℕ) (columns : List Column) → AreThere tables (elim found as (λ x. Meaning) [
-  | None ↦ if is_none (schema_fault columns) then Create name columns else unbuilt
-  | Some refusal ↦ Refused refusal
-])
-create_there tables None name columns = there_if tables (is_none (schema_fault columns)) (Create name columns) tt
-create_there tables (Some refusal) name columns = tt
-
-meaning_there : (tables : List Table) (statement : Statement) → AreThere tables (meaning tables statement)
-meaning_there tables (ask.Create spot columns) =
-    create_there tables (creation_refusal (λ (table : Table). table.name) tables spot.name (columns_of columns)) spot.name (columns_of columns)
-meaning_there tables (ask.Insert spot tuples) = at_there tables (ask.Insert spot tuples) (place_of (λ (table : Table). table.name) spot.name tables)
-meaning_there tables (ask.Select query) = at_there tables (ask.Select query) (place_of (λ (table : Table). table.name) query.table.name tables)
-meaning_there tables (ask.Update spot sets filter) = at_there tables (ask.Update spot sets filter) (place_of (λ (table : Table). table.name) spot.name tables)
-meaning_there tables (ask.Delete spot filter) = at_there tables (ask.Delete spot filter) (place_of (λ (table : Table). table.name) spot.name tables)
-meaning_there tables other = tt
+forms_there : (tables : List Table) → HoldsOfForms tables (AreThere tables)
+forms_there tables = record {
+  refused = λ of refusal own same. tt;
+  nothing = λ of own. tt;
+  rows = λ rows. tt;
+  inserts = λ place table given rows is stored id has. absurd (false≢true has);
+  updates = λ place table sets filter rows is found id has. in_table_at tables place table id is
+      (picked_has (new_row table.schema sets filter) (λ update. update.0)
+      (new_rows_are_named table.schema sets filter) id table.rows rows found
+      (ap (λ ids. has_id ids id) (sym (append-nil (map (λ (update : ℕ × List Value). update.0) rows))) ∙ has));
+  deletes = λ place table filter ids is found id has. in_table_at tables place table id is
+      (picked_has (gone_id filter) (λ id. id) (gone_ids_are_named filter) id table.rows ids found
+      (ap (λ ids. has_id ids id) (map_id ids) ∙ has));
+  creates = λ name columns may. tt;
+}
 
 pub changed_rows_are_there : ChangedRowsAreThere
-changed_rows_are_there tables statement count part is = subst (AreThere tables) is (meaning_there tables statement)
+changed_rows_are_there tables statement count part is =
+    subst (AreThere tables (kind_of statement)) is
+    (meaning_holds tables (AreThere tables) (forms_there tables) statement)

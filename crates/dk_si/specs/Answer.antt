@@ -147,7 +147,7 @@ answer_statement opened iteration machine number (transaction.Open active) state
 -- the answer to a call of a session in that transaction, where the greatest iteration so far is this one
 abbrev pub answer : List Table → ℕ → Machine → ℕ → Transaction → Asked → Reply
 answer opened iteration machine number transaction Unread = reply.Refused refusal.OutOfMemory
-answer opened iteration machine number transaction (Bad at) = reply.Refused refusal.Unsupported
+answer opened iteration machine number transaction (Bad at) = reply.Refused (refusal.Syntax at)
 answer opened iteration machine number transaction (Good statement) = answer_statement opened iteration machine number transaction statement
 
 abbrev pub timeless_receipt : Receipt → Receipt

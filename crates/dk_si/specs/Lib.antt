@@ -2,6 +2,8 @@ pub mod Database
 pub mod Nets
 pub mod Weight
 pub mod Size
+pub mod Stored
+pub mod Picked
 pub mod Meaning
 pub mod Machine
 pub mod LawfulCalls

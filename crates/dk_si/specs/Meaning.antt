@@ -1,47 +1,47 @@
 -- What a statement means on a database: rows, a change, a new table or a refusal.
-use Rattle.std.specs.List.{list_all, list_any}
 use Rattle.std.specs.Ordering.{int_eq}
-use Rattle.std.specs.Prelude.{option_map, ℕ, Bool, true, false, not, bytes_eq, if◌then◌else◌, List, ◌&&◌, is_none, length, nat_lt, ◌==◌, [], ◌+◌, ◌∷◌, Option, Some, None, is_some, slice_set, map, slice_get}
+use Rattle.std.specs.Prelude.{ℕ, Bool, true, false, not, bytes_eq, if◌then◌else◌, List, ◌&&◌, is_none, length, nat_lt, ◌==◌, [], Option, Some, None, Result, Ok, Err, map, take, slice_get}
 use lib.Pointwise.{pointwise}
 use Rattle.dk_values.specs.Columns.{schema_fault}
 use Rattle.dk_values.specs.declared.column.Column.{Column}
-use Rattle.dk_values.specs.declared.value.ColType.{ColType}
-use Rattle.dk_values.specs.declared.value.ColType.TheVariants as type
 use Rattle.dk_values.specs.declared.value.Value.{Value}
 use Rattle.dk_values.specs.declared.value.Value.TheVariants as value
+use Rattle.dk_types.specs.declared.bound.Bound.{Bound}
+use Rattle.dk_types.specs.declared.bound.Bound.TheVariants as bound
+use Rattle.dk_types.specs.declared.bound.BoundExpr.{BoundExpr}
+use Rattle.dk_types.specs.declared.bound.BoundSet.{BoundSet}
 use Rattle.dk_types.specs.declared.reply.Refusal.{Refusal}
-use Rattle.dk_types.specs.declared.reply.Refusal.TheVariants.{TooLarge, Unsupported}
-use Rattle.dk_syntax.specs.Literals.{literal_of, literals_of}
-use Rattle.dk_syntax.specs.declared.expression.Expr.{Expr}
-use Rattle.dk_syntax.specs.declared.query.Items.{Items}
-use Rattle.dk_syntax.specs.declared.query.Items.TheVariants as items
-use Rattle.dk_syntax.specs.declared.query.Query.{Query}
-use Rattle.dk_syntax.specs.declared.statement.ColumnSpot.{ColumnSpot}
-use Rattle.dk_syntax.specs.declared.statement.Set.{Set}
-use Rattle.dk_syntax.specs.declared.statement.Tuple.{Tuple}
+use Rattle.dk_types.specs.declared.reply.Refusal.TheVariants as refusal
 use Rattle.dk_syntax.specs.declared.statement.Statement.{Statement}
-use Rattle.dk_syntax.specs.declared.statement.Statement.TheVariants as statement
+use Rattle.dk_pages.specs.declared.tree.TableEntry.{TableEntry}
+use Rattle.dk_bind.specs.declared.statements.TheConstants.{MAX_TABLES}
+use Rattle.dk_bind.specs.Outcomes.{Outcome}
+use Rattle.dk_bind.specs.Statements.{bound_statement}
+use Rattle.dk_query.specs.Selected.{selected}
 use Rattle.dk_si.specs.declared.database.Table.{Table}
-use Rattle.dk_si.specs.declared.limits.TheConstants.{MAX_TABLES}
 use Rattle.dk_si.specs.declared.meaning.Meaning.{Meaning}
 use Rattle.dk_si.specs.declared.meaning.Meaning.TheVariants.{Refused, Create, Change, Rows, Nothing}
-use Rattle.dk_si.specs.Database.{place_of, present}
-use Rattle.dk_si.specs.Nets.{is_empty}
+use Rattle.dk_si.specs.Database.{place_of}
+use Rattle.dk_si.specs.Picked.{picked, new_row, gone_id}
+use Rattle.dk_si.specs.Stored.{stored_rows}
 
--- Names, numbers and types that a statement may not have are told apart once the grammar of SQL is whole. Until then
--- such a statement is of a form that is not built.
-abbrev pub unbuilt : Meaning
-unbuilt = Refused Unsupported
-
--- and so is a text outside the grammar
+-- a text outside the grammar is refused at its first fault
 abbrev pub is_text_refusal : ℕ → Refusal → Bool
-is_text_refusal at Unsupported = true
+is_text_refusal at (refusal.Syntax place) = place == at
 is_text_refusal at other = false
 
 -- two refusals of a statement by its meaning or its size are the same
 abbrev pub is_same_refusal : Refusal → Refusal → Bool
-is_same_refusal Unsupported Unsupported = true
-is_same_refusal (TooLarge bytes rows) (TooLarge other_bytes other_rows) = bytes == other_bytes && rows == other_rows
+is_same_refusal (refusal.NoTable at) (refusal.NoTable other) = at == other
+is_same_refusal (refusal.NoColumn at) (refusal.NoColumn other) = at == other
+is_same_refusal (refusal.TypeMismatch at) (refusal.TypeMismatch other) = at == other
+is_same_refusal (refusal.SameColumn at) (refusal.SameColumn other) = at == other
+is_same_refusal (refusal.NotGrouped at) (refusal.NotGrouped other) = at == other
+is_same_refusal (refusal.TableExists at) (refusal.TableExists other) = at == other
+is_same_refusal refusal.TooManyTables refusal.TooManyTables = true
+is_same_refusal (refusal.OutOfRange row) (refusal.OutOfRange other) = row == other
+is_same_refusal (refusal.TooLarge bytes rows) (refusal.TooLarge other_bytes other_rows) = bytes == other_bytes && rows == other_rows
+is_same_refusal refusal.Unsupported refusal.Unsupported = true
 is_same_refusal refusal other = false
 
 abbrev pub same_value : Value → Value → Bool
@@ -56,149 +56,67 @@ same_value a b = false
 abbrev pub same_rows : List (List Value) → List (List Value) → Bool
 same_rows rows others = pointwise (pointwise same_value) rows others
 
-abbrev pub is_big : Value → Bool
-is_big (value.Big n) = true
-is_big other = false
+-- a table of that name and these columns may be made beside others: no other has its name, the columns are a schema, and
+-- there are less than 64 tables
+abbrev pub may_create : List Table → List ℕ → List Column → Bool
+may_create tables name columns =
+    is_none (place_of (λ table. table.name) name tables)
+    && (is_none (schema_fault columns) && nat_lt (length tables) MAX_TABLES)
 
-abbrev pub is_big_type : ColType → Bool
-is_big_type type.Big = true
-is_big_type other = false
+-- ---- the meaning of a bound statement
 
-abbrev pub all_big : List Column → Bool
-all_big columns = list_all (λ column. is_big_type column.kind) columns
+-- a change by its part for the table of that place
+abbrev pub insert : ℕ → List (List Value) → Meaning
+insert place rows = Change (length rows) (record { table = place; updates = []; deletes = []; rows = rows })
 
-abbrev pub columns_of : List ColumnSpot → List Column
-columns_of spots = map (λ spot. record { name = spot.column.name; kind = spot.kind }) spots
+abbrev pub update : ℕ → List (ℕ × List Value) → Meaning
+update place updates = Change (length updates) (record { table = place; updates = updates; deletes = []; rows = [] })
 
--- why a table of that name may not be made beside others, if it may not: it has a name that no other has, BIGINT columns,
--- and one of the first 64 places
-abbrev pub creation_refusal : {T : Type 0} → (T → List ℕ) → List T → List ℕ → List Column → Option Refusal
-creation_refusal name_of others name columns =
-    if is_none (place_of name_of name others) && (all_big columns && nat_lt (length others) MAX_TABLES)
-    then None else Some Unsupported
+abbrev pub delete : ℕ → List ℕ → Meaning
+delete place ids = Change (length ids) (record { table = place; updates = []; deletes = ids; rows = [] })
 
--- a new table, whose columns are a schema
-abbrev pub create : List Table → List ℕ → List Column → Meaning
-create tables name columns = elim (creation_refusal (λ table. table.name) tables name columns) [
-  | None ↦ if is_none (schema_fault columns) then Create name columns else unbuilt
-  | Some refusal ↦ Refused refusal
-]
+-- what is found means something, or a row has no value
+abbrev pub meant_by : {T : Type 0} → (T → Meaning) → Result T ℕ → Meaning
+meant_by means (Ok found) = means found
+meant_by means (Err row) = Refused (refusal.OutOfRange row)
 
--- a tuple has a number for each column
-abbrev pub is_fitting : List Column → List Value → Bool
-is_fitting schema tuple = all_big schema && (length tuple == length schema && list_all is_big tuple)
+-- INSERT of rows, which are counted from 0, into a table
+abbrev pub insert_rows : ℕ → List (List Value) → Table → Meaning
+insert_rows place rows table = meant_by (insert place) (stored_rows table.schema 0 rows)
 
--- each tuple fits
-abbrev pub fits : List Column → List (List Value) → Bool
-fits schema tuples = list_all (is_fitting schema) tuples
+-- UPDATE and DELETE of the rows of a table that the filter keeps, all of them as they were
+abbrev pub update_rows : ℕ → List BoundSet → Option BoundExpr → Table → Meaning
+update_rows place sets filter table = meant_by (update place) (picked (new_row table.schema sets filter) 0 table.rows)
 
--- the rows of tuples whose members are all literals
-abbrev pub rows_of : List Tuple → Option (List (List Value))
-rows_of [] = Some []
-rows_of (tuple ∷ tuples) = elim (literals_of tuple.values) [
-  | None ↦ None
-  | Some row ↦ option_map (λ rows. row ∷ rows) (rows_of tuples)
-]
+abbrev pub delete_rows : ℕ → Option BoundExpr → Table → Meaning
+delete_rows place filter table = meant_by (delete place) (picked (gone_id filter) 0 table.rows)
 
-abbrev pub insert_rows : Option (List (List Value)) → ℕ → Table → Meaning
-insert_rows None place table = unbuilt
-insert_rows (Some rows) place table =
-    if fits table.schema rows
-    then Change (length rows) (record { table = place; updates = []; deletes = []; rows = rows })
-    else unbuilt
+-- what a statement does in the table of that place; binding finds no other place
+abbrev pub in_table : List Table → ℕ → (Table → Meaning) → Meaning
+in_table tables place means = elim (slice_get tables place) [ None ↦ Refused refusal.Unsupported | Some table ↦ means table ]
 
-abbrev pub insert : List Tuple → ℕ → Table → Meaning
-insert tuples place table = insert_rows (rows_of tuples) place table
+-- the meaning of a bound statement. The data of a COPY don't come yet
+abbrev pub meaning_of : List Table → Bound → Meaning
+meaning_of tables (bound.Create name schema) = Create name schema
+meaning_of tables (bound.Insert place rows) = in_table tables place (insert_rows place rows)
+meaning_of tables (bound.InsertSelect place query) = in_table tables query.table (λ source.
+    meant_by (λ rows. in_table tables place (insert_rows place rows)) (selected query source.rows))
+meaning_of tables (bound.Copy place bytes) = Refused refusal.Unsupported
+meaning_of tables (bound.Select query) = in_table tables query.table (λ table. meant_by Rows (selected query table.rows))
+meaning_of tables (bound.Update place sets filter) = in_table tables place (update_rows place sets filter)
+meaning_of tables (bound.Delete place filter) = in_table tables place (delete_rows place filter)
+meaning_of tables bound.Other = Nothing
 
--- the rows that are there, with their ids
-abbrev pub present_from : ℕ → List (Option (List Value)) → List (ℕ × List Value)
-present_from id [] = []
-present_from id (None ∷ rows) = present_from (id + 1) rows
-present_from id (Some row ∷ rows) = (id, row) ∷ present_from (id + 1) rows
+-- ---- the meaning of a statement
 
-abbrev pub present_with_ids : List (Option (List Value)) → List (ℕ × List Value)
-present_with_ids rows = present_from 0 rows
+-- the tables as binding sees them: a database has at most 64
+abbrev pub entries_of : List Table → List TableEntry
+entries_of tables = map (λ table. record { name = table.name; schema = table.schema; groups = [] }) (take MAX_TABLES tables)
 
-abbrev pub column_of : List Column → List ℕ → Option ℕ
-column_of schema name = place_of (λ column. column.name) name schema
+abbrev pub meaning_by : List Table → Outcome Bound → Meaning
+meaning_by tables (Ok bound) = meaning_of tables bound
+meaning_by tables (Err refusal) = Refused refusal
 
-abbrev pub sets_column : List ℕ → List Set → Bool
-sets_column name sets = list_any (λ set. bytes_eq set.column.name name) sets
-
-abbrev pub is_big_literal : Option Value → Bool
-is_big_literal None = false
-is_big_literal (Some v) = is_big v
-
--- each set gives a number to a column of the table, and no two to one
-abbrev pub can_set : List Column → List Set → Bool
-can_set schema [] = true
-can_set schema (set ∷ sets) =
-    (is_some (column_of schema set.column.name) && is_big_literal (literal_of set.value))
-    && (not (sets_column set.column.name sets) && can_set schema sets)
-
-abbrev pub set_at : Option ℕ → Option Value → List Value → List Value
-set_at (Some place) (Some v) row = slice_set row place v
-set_at place v row = row
-
--- the row with its new values
-abbrev pub with_sets : List Column → List Set → List Value → List Value
-with_sets schema [] row = row
-with_sets schema (set ∷ sets) row = with_sets schema sets (set_at (column_of schema set.column.name) (literal_of set.value) row)
-
--- the rows with their new values
-abbrev pub set_rows : List Column → List Set → List (ℕ × List Value) → List (ℕ × List Value)
-set_rows schema sets rows = map (λ row. (row.0, with_sets schema sets row.1)) rows
-
--- all rows get the values of the sets
-abbrev pub update : List Set → Option Expr → ℕ → Table → Meaning
-update sets filter place table =
-    if is_none filter && (all_big table.schema && can_set table.schema sets)
-    then Change (length (present_with_ids table.rows)) (record { table = place; updates = set_rows table.schema sets (present_with_ids table.rows); deletes = []; rows = [] })
-    else unbuilt
-
--- all rows go
-abbrev pub delete : Option Expr → ℕ → Table → Meaning
-delete filter place table =
-    if is_none filter
-    then Change (length (present_with_ids table.rows)) (record { table = place; updates = []; deletes = map (λ row. row.0) (present_with_ids table.rows); rows = [] })
-    else unbuilt
-
-abbrev pub is_all : Items → Bool
-is_all (items.All at) = true
-is_all (items.Listed list) = false
-
--- a query of all columns and all rows
-abbrev pub is_whole : Query → Bool
-is_whole query = (is_all query.items && is_none query.filter) && ((is_empty query.groups && is_empty query.keys) && is_none query.limit)
-
-abbrev pub select : Query → Table → Meaning
-select query table = if is_whole query then Rows (present table.rows) else unbuilt
-
--- what a statement does in its table, which has that place
-abbrev pub in_place : Statement → ℕ → Table → Meaning
-in_place (statement.Insert spot tuples) place table = insert tuples place table
-in_place (statement.Select query) place table = select query table
-in_place (statement.Update spot sets filter) place table = update sets filter place table
-in_place (statement.Delete spot filter) place table = delete filter place table
-in_place other place table = Nothing
-
--- a table has one of the first 64 places
-abbrev pub at_place : Statement → List Table → Option ℕ → Meaning
-at_place statement tables None = unbuilt
-at_place statement tables (Some place) =
-    if nat_lt place MAX_TABLES then elim (slice_get tables place) [ None ↦ unbuilt | Some table ↦ in_place statement place table ] else unbuilt
-
--- what a statement does in the table of that name
-abbrev pub in_table : List ℕ → Statement → List Table → Meaning
-in_table name statement tables = at_place statement tables (place_of (λ table. table.name) name tables)
-
--- the meaning of a statement on a database
+-- the meaning of a statement on a database: that of what it is bound to there, or the refusal of binding
 abbrev pub meaning : List Table → Statement → Meaning
-meaning tables (statement.Create spot columns) = create tables spot.name (columns_of columns)
-meaning tables (statement.Insert spot tuples) = in_table spot.name (statement.Insert spot tuples) tables
-meaning tables (statement.InsertSelect spot at query) = unbuilt
-meaning tables (statement.Copy spot bytes) = unbuilt
-meaning tables (statement.Select query) = in_table query.table.name (statement.Select query) tables
-meaning tables (statement.Update spot sets filter) = in_table spot.name (statement.Update spot sets filter) tables
-meaning tables (statement.Delete spot filter) = in_table spot.name (statement.Delete spot filter) tables
-meaning tables other = Nothing
+meaning tables statement = meaning_by tables (bound_statement (entries_of tables) statement)

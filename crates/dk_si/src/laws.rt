@@ -117,7 +117,6 @@ pub fn same_rows_are_equal()
 {}
 
 /// The count of a change is the number of rows that it updates, deletes and adds.
-#[tactic(auto, using(crate::proofs::MeaningLemmas::counts_its_rows))]
 pub fn counts_its_rows()
     ensures { CountsItsRows }
 {}

@@ -1,2 +1,2 @@
-pub mod SetLemmas
-pub mod RowLemmas
+pub mod EntryLemmas
+pub mod StoredLemmas

@@ -1,1 +1,2 @@
-pub mod RowsBehind
+pub mod Entries
+pub mod Means

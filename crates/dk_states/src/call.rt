@@ -1,12 +1,12 @@
 //! What a call means in an open transaction, and what it changes.
-ghost use Rattle.std.specs.Prelude.{◌≡◌, IfOk};
+ghost use Rattle.std.specs.Prelude.{◌≡◌, map, IfOk};
 ghost use Rattle.dk_si.specs.declared.history.Asked.TheVariants as asked_variants;
 ghost use Rattle.dk_si.specs.declared.machine.WriteSet.{WriteSet};
 ghost use Rattle.dk_si.specs.Machine.{kind_in, asks_for, has_own, begins_one, meaning_in, committed_count};
 ghost use Rattle.dk_si.specs.Machine.{changed_ids, write_set, write_set_in_flight, net_after, net_behind};
 ghost use Rattle.dk_si.specs.Nets.{committed_ids};
 
-use crate::meaning::{ids_of, meaning};
+use crate::meaning::meaning;
 use dk_plain::database::{after, view};
 use dk_plain::nets::{committed, merged_net, row_count};
 use dk_plain::{CommitLog, Inside};
@@ -14,7 +14,7 @@ use dk_si::history::Asked;
 use dk_si::kind::Kind;
 use dk_si::machine::{Transaction, WriteSet};
 use dk_si::meaning::Meaning;
-use dk_types::{List, Net, OutOfMemory, Statement, TableNet, TryCopy};
+use dk_types::{List, Net, OutOfMemory, Row, Statement, TableNet, TryCopy};
 use std::alloc::Global;
 
 /// The kind of the statement in flight, if there is one.
@@ -78,6 +78,17 @@ pub fn committed_count(alloc: Global, inside: &Inside<'_>, table: u32) -> Result
 {
     let tables = after(alloc, &inside.log, inside.active.start)?;
     Ok(row_count(tables.as_slice(), table))
+}
+
+/// The ids of rows that stand with them.
+fn ids_of(alloc: Global, rows: &[(u64, Row)]) -> Result<Vec<u64>, OutOfMemory>
+    ensures { IfOk result (λ ids. ids.items ≡ map (λ row. row.0) rows.now) }
+{
+    let mut ids = Vec::new(alloc);
+    for row in rows {
+        ids.push(row.0)?;
+    }
+    Ok(ids)
 }
 
 /// The ids of a part's updates and deletes.

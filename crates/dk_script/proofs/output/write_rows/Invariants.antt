@@ -1,7 +1,7 @@
 -- The rows so far went out or stand on the page, and the others come next.
 use Rattle.std.proofs.Common.{◌≤◌, ◌++◌, drop}
 use Rattle.dk_script.specs.Paging.{Paged}
-use Rattle.dk_script.specs.Texts.{rows_text}
+use Rattle.dk_texts.specs.Texts.{rows_text}
 use Rattle.dk_script.proofs.output.write_rows.Given as goal
 
 abbrev pub invariant-rows : goal.invariant-rows

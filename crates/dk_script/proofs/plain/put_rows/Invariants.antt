@@ -1,6 +1,6 @@
 -- What was put and what is left to put are the text of all rows.
 use Rattle.std.proofs.Common.{◌≡◌, ◌++◌, drop}
-use Rattle.dk_script.specs.Texts.{rows_text}
+use Rattle.dk_texts.specs.Texts.{rows_text}
 use Rattle.dk_script.proofs.plain.put_rows.Given as goal
 
 abbrev pub invariant-rows : goal.invariant-rows
