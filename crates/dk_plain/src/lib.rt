@@ -9,6 +9,7 @@
 pub mod database;
 pub mod log;
 pub mod nets;
+pub mod runs;
 pub mod size;
 pub mod slices;
 pub mod weights;

@@ -7,41 +7,10 @@ ghost use Rattle.dk_si.specs.Nets.{merged_part, part_of, without, with_part, mer
 ghost use Rattle.dk_si.specs.Nets.{net_has};
 
 use crate::database::{add_rows, clear_rows, present, put_rows};
+use crate::runs::{Keyed, put_all};
 use dk_si::database::Table;
 use dk_types::{List, Net, OutOfMemory, Row, Rows, TableNet, TryCopy, Updates};
 use std::alloc::Global;
-
-/// What has a number by which it stands in an ascending list.
-pub trait Keyed: Drop {
-    ghost key: { Self → ℕ };
-
-    fn key(&self) -> u64
-        ensures { result ≡ key self.now };
-}
-
-impl Keyed for u64 {
-    ghost key = { λ id. id };
-
-    fn key(&self) -> u64 {
-        *self
-    }
-}
-
-impl Keyed for (u64, Row) {
-    ghost key = { λ update. update.0 };
-
-    fn key(&self) -> u64 {
-        self.0
-    }
-}
-
-impl Keyed for TableNet {
-    ghost key = { λ part. part.table };
-
-    fn key(&self) -> u64 {
-        self.table as u64
-    }
-}
 
 /// What stands at a row's place, and may be moved by so many places to the front.
 pub trait Placed: Keyed {
@@ -116,17 +85,6 @@ fn finish<T: Keyed>(done: Vec<T>, waiting: Option<T>) -> Result<Vec<T>, OutOfMem
         return Ok(all);
     };
     all.push(item)?;
-    Ok(all)
-}
-
-#[tactic(auto, using(crate::proofs::PutLemmas::put_more))]
-fn put_all<T: Keyed>(alloc: Global, items: Vec<T>, more: Vec<T>) -> Result<Vec<T>, OutOfMemory>
-    ensures { IfOk result (λ all. all.items ≡ put_all T.key more.items items.items) }
-{
-    let mut all = items;
-    for item in more {
-        all = put(alloc, all, item)?;
-    }
     Ok(all)
 }
 
@@ -239,7 +197,7 @@ fn merged_updates(alloc: Global, merge: Merge<'_>) -> Result<Updates, OutOfMemor
 {
     let change = merge.change;
     let newer = committed(alloc, merge.count, change.updates.as_slice())?;
-    let updates = put_all(alloc, merge.part.updates.copy()?.into_vec(), newer)?;
+    let updates = put_all(alloc, merge.part.updates.as_slice(), newer.as_slice())?;
     let kept = unless_deleted(alloc, updates, change.deletes.as_slice())?;
     Ok(kept)
 }
@@ -249,7 +207,7 @@ fn merged_deletes(alloc: Global, merge: Merge<'_>) -> Result<List<u64>, OutOfMem
         merge.entry.change.now) }
 {
     let newer = committed(alloc, merge.count, merge.change.deletes.as_slice())?;
-    let deletes = put_all(alloc, merge.part.deletes.copy()?.into_vec(), newer)?;
+    let deletes = put_all(alloc, merge.part.deletes.as_slice(), newer.as_slice())?;
     Ok(List::from_vec(deletes))
 }
 

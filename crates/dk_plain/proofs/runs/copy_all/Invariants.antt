@@ -1,0 +1,6 @@
+-- What is copied.
+use Rattle.std.proofs.Common.{◌≡◌, ◌++◌, take}
+use Rattle.dk_plain.proofs.runs.copy_all.Given as goal
+
+abbrev pub invariant-loop-item : goal.invariant-loop-item
+invariant-loop-item g l = l.all.items ≡ l.fn.all.items ++ take l.item-index l.items
