@@ -267,14 +267,18 @@ fn cut_and_changed_texts_are_read_to_their_first_fault(rt: HostRuntime) -> Resul
     Ok(())
 }
 
-/// A front, a piece so many times, and an end.
-fn repeated(
-    alloc: Global,
-    front: &[u8],
-    piece: &[u8],
-    count: u32,
-    end: &[u8],
-) -> Result<Vec<u8>, OutOfMemory> {
+/// A text of a front, a piece so many times, and an end, with the place of its first fault.
+type Long = (
+    &'static [u8],
+    &'static [u8],
+    u32,
+    &'static [u8],
+    Option<u64>,
+);
+
+/// The text itself.
+fn repeated(alloc: Global, long: &Long) -> Result<Vec<u8>, OutOfMemory> {
+    let (front, piece, count, end, _) = *long;
     let mut text = Vec::from_slice(alloc, front)?;
     for _ in 0..count {
         text.extend_from_slice(piece)?;
@@ -283,126 +287,81 @@ fn repeated(
     Ok(text)
 }
 
-/// The first fault of such a text.
-fn fault_in_repeated(
-    alloc: Global,
-    front: &[u8],
-    piece: &[u8],
-    count: u32,
-    end: &[u8],
-) -> Result<Option<u64>, OutOfMemory> {
-    let text = repeated(alloc, front, piece, count, end)?;
-    fault_in(alloc, text.as_slice())
+/// Whether a text has its first fault where it should.
+fn is_told(alloc: Global, long: &Long) -> Result<bool, OutOfMemory> {
+    let text = repeated(alloc, long)?;
+    Ok(fault_in(alloc, text.as_slice())? == long.4)
 }
+
+/// The place among these of the first text that has its first fault elsewhere.
+fn first_untold(alloc: Global, texts: &[Long]) -> Result<Option<usize>, OutOfMemory> {
+    for (place, long) in texts.iter().enumerate() {
+        if !is_told(alloc, long)? {
+            return Ok(Some(place));
+        }
+    }
+    Ok(None)
+}
+
+/// Each limit of levels and operators, and one above it, which is refused at its token.
+const LEVELS: [Long; 12] = [
+    (b"SELECT ", b"NOT ", 64, b"a FROM t", None),
+    (b"SELECT ", b"NOT ", 65, b"a FROM t", Some(263)),
+    (b"SELECT ", b"- ", 64, b"a FROM t", None),
+    (b"SELECT ", b"- ", 65, b"a FROM t", Some(135)),
+    (b"SELECT ", b"- ", 65, b"1 FROM t", None),
+    (b"SELECT ", b"(", 64, b"a", Some(72)),
+    (b"SELECT ", b"(", 65, b"a", Some(71)),
+    (b"SELECT ", b"(", 5_000_000, b"", Some(71)),
+    (b"SELECT a", b"+1", 1_000, b" FROM t", None),
+    (b"SELECT a", b"+1", 1_001, b" FROM t", Some(2_008)),
+    (b"SELECT a", b"=(1*b)", 1, b" FROM t", None),
+    (b"SELECT a, a", b"+1", 1_000, b" FROM t", None),
+];
 
 #[test]
 fn levels_and_operators_have_limits(rt: HostRuntime) -> Result<(), Fail> {
-    let alloc = rt.alloc();
-    // Each at the limit, and one above it, which is refused at its token.
-    assert_eq!(rt;
-        fault_in_repeated(alloc, b"SELECT ", b"NOT ", 64, b"a FROM t")?,
-        None
-    );
-    assert_eq!(rt;
-        fault_in_repeated(alloc, b"SELECT ", b"NOT ", 65, b"a FROM t")?,
-        Some(263)
-    );
-    assert_eq!(rt;
-        fault_in_repeated(alloc, b"SELECT ", b"- ", 64, b"a FROM t")?,
-        None
-    );
-    assert_eq!(rt;
-        fault_in_repeated(alloc, b"SELECT ", b"- ", 65, b"a FROM t")?,
-        Some(135)
-    );
-    assert_eq!(rt;
-        fault_in_repeated(alloc, b"SELECT ", b"- ", 65, b"1 FROM t")?,
-        None
-    );
-    assert_eq!(rt;
-        fault_in_repeated(alloc, b"SELECT ", b"(", 64, b"a")?,
-        Some(72)
-    );
-    assert_eq!(rt;
-        fault_in_repeated(alloc, b"SELECT ", b"(", 65, b"a")?,
-        Some(71)
-    );
-    assert_eq!(rt;
-        fault_in_repeated(alloc, b"SELECT ", b"(", 5_000_000, b"")?,
-        Some(71)
-    );
-    assert_eq!(rt;
-        fault_in_repeated(alloc, b"SELECT a", b"+1", 1_000, b" FROM t")?,
-        None
-    );
-    assert_eq!(rt;
-        fault_in_repeated(alloc, b"SELECT a", b"+1", 1_001, b" FROM t")?,
-        Some(2_008)
-    );
-    assert_eq!(rt;
-        fault_in_repeated(alloc, b"SELECT a", b"=(1*b)", 1, b" FROM t")?,
-        None
-    );
-    assert_eq!(rt;
-        fault_in_repeated(alloc, b"SELECT a, a", b"+1", 1_000, b" FROM t")?,
-        None
-    );
+    assert_eq!(rt; first_untold(rt.alloc(), &LEVELS)?, None);
     Ok(())
 }
+
+/// The same of names, numbers and columns.
+const LENGTHS: [Long; 8] = [
+    (b"DELETE FROM ", b"x", 63, b"", None),
+    (b"DELETE FROM ", b"x", 64, b"", Some(12)),
+    (b"SELECT ", b"9", 1_000, b" FROM t", Some(7)),
+    (b"SELECT ", b"0", 1_000, b"1 FROM t", None),
+    (b"CREATE TABLE t (a BIGINT", b", a BIGINT", 63, b")", None),
+    (
+        b"CREATE TABLE t (a BIGINT",
+        b", a BIGINT",
+        64,
+        b")",
+        Some(656),
+    ),
+    (b"SELECT a", b", a", 1_000, b" FROM t", None),
+    (b"", b" ", 1_000_000, b"\xff", Some(1_000_000)),
+];
 
 #[test]
 fn names_numbers_and_columns_have_limits(rt: HostRuntime) -> Result<(), Fail> {
-    let alloc = rt.alloc();
-    assert_eq!(rt;
-        fault_in_repeated(alloc, b"DELETE FROM ", b"x", 63, b"")?,
-        None
-    );
-    assert_eq!(rt;
-        fault_in_repeated(alloc, b"DELETE FROM ", b"x", 64, b"")?,
-        Some(12)
-    );
-    assert_eq!(rt;
-        fault_in_repeated(alloc, b"SELECT ", b"9", 1_000, b" FROM t")?,
-        Some(7)
-    );
-    assert_eq!(rt;
-        fault_in_repeated(alloc, b"SELECT ", b"0", 1_000, b"1 FROM t")?,
-        None
-    );
-    assert_eq!(rt;
-        fault_in_repeated(alloc, b"CREATE TABLE t (a BIGINT", b", a BIGINT", 63, b")")?,
-        None
-    );
-    assert_eq!(rt;
-        fault_in_repeated(alloc, b"CREATE TABLE t (a BIGINT", b", a BIGINT", 64, b")")?,
-        Some(656)
-    );
-    assert_eq!(rt;
-        fault_in_repeated(alloc, b"SELECT a", b", a", 1_000, b" FROM t")?,
-        None
-    );
-    assert_eq!(rt;
-        fault_in_repeated(alloc, b"", b" ", 1_000_000, b"\xff")?,
-        Some(1_000_000)
-    );
+    assert_eq!(rt; first_untold(rt.alloc(), &LENGTHS)?, None);
     Ok(())
 }
 
+/// Texts in UTF-8, others, and texts that are closed or not.
+const QUOTED: [Long; 7] = [
+    (b"SELECT '\xff' FROM t", b"", 0, b"", Some(7)),
+    (b"SELECT 'a''\xff' FROM t", b"", 0, b"", Some(10)),
+    (b"SELECT '\xc3''\xa9' FROM t", b"", 0, b"", Some(7)),
+    (b"SELECT '\0' FROM t", b"", 0, b"", None),
+    (b"SELECT a FROM t\n", b"", 0, b"", Some(15)),
+    (b"SELECT '", b"''", 1_000_000, b"' FROM t", None),
+    (b"SELECT '", b"''", 1_000_000, b" FROM t", Some(2_000_007)),
+];
+
 #[test]
 fn texts_are_utf8_and_are_closed(rt: HostRuntime) -> Result<(), Fail> {
-    let alloc = rt.alloc();
-    assert_eq!(rt; fault_in(alloc, b"SELECT '\xff' FROM t")?, Some(7));
-    assert_eq!(rt; fault_in(alloc, b"SELECT 'a''\xff' FROM t")?, Some(10));
-    assert_eq!(rt; fault_in(alloc, b"SELECT '\xc3''\xa9' FROM t")?, Some(7));
-    assert_eq!(rt; fault_in(alloc, b"SELECT '\0' FROM t")?, None);
-    assert_eq!(rt; fault_in(alloc, b"SELECT a FROM t\n")?, Some(15));
-    assert_eq!(rt;
-        fault_in_repeated(alloc, b"SELECT '", b"''", 1_000_000, b"' FROM t")?,
-        None
-    );
-    assert_eq!(rt;
-        fault_in_repeated(alloc, b"SELECT '", b"''", 1_000_000, b" FROM t")?,
-        Some(2_000_007)
-    );
+    assert_eq!(rt; first_untold(rt.alloc(), &QUOTED)?, None);
     Ok(())
 }
