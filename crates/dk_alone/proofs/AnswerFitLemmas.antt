@@ -92,6 +92,7 @@ is_quiet_refusal (why.TableExists at) = true
 is_quiet_refusal (why.OutOfRange at) = true
 is_quiet_refusal why.TooManyTables = true
 is_quiet_refusal why.Unsupported = true
+is_quiet_refusal (why.BadField row field) = true
 is_quiet_refusal (why.TooLarge bytes rows) = true
 is_quiet_refusal other = false
 
@@ -147,6 +148,8 @@ module _ (opened : List Table) (last : ℕ) (before : List Entry) (machine : Mac
       fits_by may transaction (Good statement) (told.Refused why.TooManyTables) passes refl refl refl refl refl
   quiet_refused may transaction statement why.Unsupported quiet passes =
       fits_by may transaction (Good statement) (told.Refused why.Unsupported) passes refl refl refl refl refl
+  quiet_refused may transaction statement (why.BadField row field) quiet passes =
+      fits_by may transaction (Good statement) (told.Refused (why.BadField row field)) passes refl refl refl refl refl
   quiet_refused may transaction statement (why.TooLarge bytes rows) quiet passes =
       fits_by may transaction (Good statement) (told.Refused (why.TooLarge bytes rows)) passes refl refl refl refl refl
   quiet_refused may transaction statement other quiet passes = absurd (false≢true quiet)
@@ -179,6 +182,7 @@ module _ (opened : List Table) (last : ℕ) (before : List Entry) (machine : Mac
   same_is_quiet (why.OutOfRange at) same = refl
   same_is_quiet why.TooManyTables same = refl
   same_is_quiet why.Unsupported same = refl
+  same_is_quiet (why.BadField row field) same = refl
   same_is_quiet (why.TooLarge bytes rows) same = refl
   same_is_quiet other same = absurd (false≢true same)
 
@@ -430,6 +434,8 @@ module _ (opened : List Table) (last : ℕ) (before : List Entry) (machine : Mac
         quiet changes_so (state.Open active) statement (told.Refused why.TooManyTables) refl may
     refused_fits why.Unsupported same may =
         quiet changes_so (state.Open active) statement (told.Refused why.Unsupported) refl may
+    refused_fits (why.BadField row field) same may =
+        quiet changes_so (state.Open active) statement (told.Refused (why.BadField row field)) refl may
     refused_fits (why.TooLarge bytes rows) same may =
         quiet changes_so (state.Open active) statement (told.Refused (why.TooLarge bytes rows)) refl may
     refused_fits other same may = absurd (false≢true same)

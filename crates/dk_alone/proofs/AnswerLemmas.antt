@@ -99,6 +99,9 @@ same_refusal (why.TableExists a) (why.TableExists b) e = ap why.TableExists (eqb
 same_refusal (why.OutOfRange a) (why.OutOfRange b) e = ap why.OutOfRange (eqb-true a b e)
 same_refusal why.TooManyTables why.TooManyTables e = refl
 same_refusal why.Unsupported why.Unsupported e = refl
+same_refusal (why.BadField a b) (why.BadField c d) e =
+    let h = and_parts (a == c) (b == d) e in
+    ap (λ n. why.BadField n b) (eqb-true a c h.0) ∙ ap (why.BadField c) (eqb-true b d h.1)
 same_refusal (why.TooLarge a b) (why.TooLarge c d) e =
     let h = and_parts (a == c) (b == d) e in
     ap (λ n. why.TooLarge n b) (eqb-true a c h.0) ∙ ap (why.TooLarge c) (eqb-true b d h.1)

@@ -130,6 +130,7 @@ never_same (why.TableExists at) table row by e = false≢true e
 never_same why.TooManyTables table row by e = false≢true e
 never_same (why.OutOfRange at) table row by e = false≢true e
 never_same why.Unsupported table row by e = false≢true e
+never_same (why.BadField at field) table row by e = false≢true e
 never_same (why.TooLarge bytes rows) table row by e = false≢true e
 never_same other table row by e = false≢true e
 

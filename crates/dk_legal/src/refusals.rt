@@ -89,6 +89,13 @@ pub fn is_same_refusal(refusal: &Refusal, other: &Refusal) -> bool
         (Refusal::OutOfRange { row }, Refusal::OutOfRange { row: other }) => *row == *other,
         (Refusal::Unsupported, Refusal::Unsupported) => true,
         (
+            Refusal::BadField { row, field },
+            Refusal::BadField {
+                row: other_row,
+                field: other_field,
+            },
+        ) => *row == *other_row && *field == *other_field,
+        (
             Refusal::TooLarge { bytes, rows },
             Refusal::TooLarge {
                 bytes: other_bytes,

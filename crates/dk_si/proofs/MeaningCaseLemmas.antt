@@ -32,6 +32,8 @@ use Rattle.dk_bind.specs.Outcomes.{Outcome, ◌>>=◌}
 use Rattle.dk_bind.specs.Queries.{bound_filter, bound_query}
 use Rattle.dk_bind.specs.Statements.{bound_copy, bound_create, bound_delete, bound_insert, bound_insert_query, bound_select, bound_set, bound_statement, bound_table, bound_tuple, bound_update, columns_at, columns_of, create_by, spot_place, table_place, width_of}
 use Rattle.dk_bind.proofs.RefusalLemmas.{statements_are_refused_by_binding}
+use Rattle.dk_copy.specs.declared.fault.FieldPlace.{FieldPlace}
+use Rattle.dk_copy.specs.Copied.{copied_rows}
 use Rattle.dk_query.specs.Selected.{selected}
 use Rattle.dk_si.specs.declared.database.Table.{Table}
 use Rattle.dk_si.specs.declared.kind.Kind.{Kind}
@@ -40,7 +42,7 @@ use Rattle.dk_si.specs.declared.meaning.Meaning.{Meaning}
 use Rattle.dk_si.specs.declared.meaning.Meaning.TheVariants.{Rows, Create, Refused, Nothing}
 use Rattle.dk_si.specs.Database.{place_of}
 use Rattle.dk_si.specs.Machine.{kind_of, has_own}
-use Rattle.dk_si.specs.Meaning.{is_same_refusal, meaning, meaning_by, meaning_of, meant_by, in_table, entries_of, may_create, insert, update, delete, insert_rows, update_rows, delete_rows}
+use Rattle.dk_si.specs.Meaning.{is_same_refusal, meaning, meaning_by, meaning_of, meant_by, in_table, entries_of, may_create, insert, update, delete, insert_rows, copied_by, copy_rows, update_rows, delete_rows}
 use Rattle.dk_si.specs.Picked.{picked, new_row, gone_id}
 use Rattle.dk_si.specs.Stored.{stored_rows}
 
@@ -151,6 +153,20 @@ module _ (tables : List Table) (P : Kind → Meaning → Type 0) (holds : HoldsO
       by_found kind.Change (insert place) (stored_rows table.schema 0 given) refl (λ rows stored.
       holds.inserts place table given rows is stored))
 
+  data_holds : (place : ℕ) (table : Table) (found : Result (List (List Value)) FieldPlace)
+      → slice_get tables place ≡ Some table
+      → P kind.Change (copied_by (λ rows. insert_rows place rows table) found)
+  data_holds place table (Ok given) is =
+      by_found kind.Change (insert place) (stored_rows table.schema 0 given) refl (λ rows stored.
+      holds.inserts place table given rows is stored)
+  data_holds place table (Err field) is =
+      holds.refused kind.Change (refusal.BadField field.row field.field) refl
+      (and_from _ _ (eq-eqb field.row field.row refl) (eq-eqb field.field field.field refl))
+
+  copy_holds : (place : ℕ) (bytes : List ℕ) → P kind.Change (in_table tables place (copy_rows place bytes))
+  copy_holds place bytes = by_table kind.Change place (copy_rows place bytes) refl (λ table is.
+      data_holds place table (copied_rows table.schema bytes) is)
+
   query_holds : (place : ℕ) (query : BoundQuery) → P kind.Change (meaning_of tables (bound.InsertSelect place query))
   query_holds place query = by_table kind.Change query.table _ refl (λ source is.
       by_found kind.Change (λ rows. in_table tables place (insert_rows place rows)) (selected query source.rows) refl
@@ -240,7 +256,7 @@ module _ (tables : List Table) (P : Kind → Meaning → Type 0) (holds : HoldsO
   copy_of : (spot : Spot) (bytes : List ℕ) → HoldsBy kind.Change (bound_copy (entries_of tables) spot bytes)
   copy_of spot bytes =
       by_step kind.Change (bound_table (entries_of tables) spot) (λ place. Ok (bound.Copy place bytes)) refl
-      (λ place so. holds.refused kind.Change refusal.Unsupported refl refl)
+      (λ place so. copy_holds place bytes)
 
   select_of : (query : Query) → HoldsBy kind.Select (bound_select (entries_of tables) query)
   select_of query =

@@ -15,6 +15,8 @@ use Rattle.dk_types.specs.declared.reply.Refusal.TheVariants as refusal
 use Rattle.dk_syntax.specs.declared.statement.Statement.{Statement}
 use Rattle.dk_pages.specs.declared.tree.TableEntry.{TableEntry}
 use Rattle.dk_bind.specs.declared.statements.TheConstants.{MAX_TABLES}
+use Rattle.dk_copy.specs.declared.fault.FieldPlace.{FieldPlace}
+use Rattle.dk_copy.specs.Copied.{copied_rows}
 use Rattle.dk_bind.specs.Outcomes.{Outcome}
 use Rattle.dk_bind.specs.Statements.{bound_statement}
 use Rattle.dk_query.specs.Selected.{selected}
@@ -40,6 +42,7 @@ is_same_refusal (refusal.NotGrouped at) (refusal.NotGrouped other) = at == other
 is_same_refusal (refusal.TableExists at) (refusal.TableExists other) = at == other
 is_same_refusal refusal.TooManyTables refusal.TooManyTables = true
 is_same_refusal (refusal.OutOfRange row) (refusal.OutOfRange other) = row == other
+is_same_refusal (refusal.BadField row field) (refusal.BadField other_row other_field) = row == other_row && field == other_field
 is_same_refusal (refusal.TooLarge bytes rows) (refusal.TooLarge other_bytes other_rows) = bytes == other_bytes && rows == other_rows
 is_same_refusal refusal.Unsupported refusal.Unsupported = true
 is_same_refusal refusal other = false
@@ -84,6 +87,15 @@ meant_by means (Err row) = Refused (refusal.OutOfRange row)
 abbrev pub insert_rows : ℕ → List (List Value) → Table → Meaning
 insert_rows place rows table = meant_by (insert place) (stored_rows table.schema 0 rows)
 
+-- data hold rows that mean something, or a field that has no value in its column
+abbrev pub copied_by : (List (List Value) → Meaning) → Result (List (List Value)) FieldPlace → Meaning
+copied_by means (Ok rows) = means rows
+copied_by means (Err place) = Refused (refusal.BadField place.row place.field)
+
+-- COPY inserts the rows of its data into a table
+abbrev pub copy_rows : ℕ → List ℕ → Table → Meaning
+copy_rows place bytes table = copied_by (λ rows. insert_rows place rows table) (copied_rows table.schema bytes)
+
 -- UPDATE and DELETE of the rows of a table that the filter keeps, all of them as they were
 abbrev pub update_rows : ℕ → List BoundSet → Option BoundExpr → Table → Meaning
 update_rows place sets filter table = meant_by (update place) (picked (new_row table.schema sets filter) 0 table.rows)
@@ -95,13 +107,13 @@ delete_rows place filter table = meant_by (delete place) (picked (gone_id filter
 abbrev pub in_table : List Table → ℕ → (Table → Meaning) → Meaning
 in_table tables place means = elim (slice_get tables place) [ None ↦ Refused refusal.Unsupported | Some table ↦ means table ]
 
--- the meaning of a bound statement. The data of a COPY don't come yet
+-- the meaning of a bound statement
 abbrev pub meaning_of : List Table → Bound → Meaning
 meaning_of tables (bound.Create name schema) = Create name schema
 meaning_of tables (bound.Insert place rows) = in_table tables place (insert_rows place rows)
 meaning_of tables (bound.InsertSelect place query) = in_table tables query.table (λ source.
     meant_by (λ rows. in_table tables place (insert_rows place rows)) (selected query source.rows))
-meaning_of tables (bound.Copy place bytes) = Refused refusal.Unsupported
+meaning_of tables (bound.Copy place bytes) = in_table tables place (copy_rows place bytes)
 meaning_of tables (bound.Select query) = in_table tables query.table (λ table. meant_by Rows (selected query table.rows))
 meaning_of tables (bound.Update place sets filter) = in_table tables place (update_rows place sets filter)
 meaning_of tables (bound.Delete place filter) = in_table tables place (delete_rows place filter)

@@ -6,7 +6,7 @@ ghost use Rattle.dk_types.specs.declared.bound.Bound.TheVariants as bound_varian
 ghost use Rattle.dk_types.specs.declared.reply.Refusal.TheVariants.{Unsupported};
 ghost use Rattle.dk_si.specs.declared.meaning.Meaning.TheVariants.{Refused};
 ghost use Rattle.dk_si.specs.Meaning.{meaning, meaning_of, meant_by, in_table, entries_of};
-ghost use Rattle.dk_si.specs.Meaning.{insert_rows, update as update_of, update_rows, delete_rows};
+ghost use Rattle.dk_si.specs.Meaning.{insert_rows, copy_rows, update as update_of, update_rows, delete_rows};
 ghost use Rattle.dk_si.specs.Picked.{picked, new_row};
 ghost use Rattle.dk_states.specs.Entries.{entry_of};
 ghost use Rattle.dk_states.specs.Means.{Means};
@@ -14,6 +14,7 @@ ghost use Rattle.dk_states.specs.Means.{Means};
 use crate::picks::{Update, deleted_ids, updated_rows};
 use crate::stored::stored_rows;
 use dk_bind::{BindError, MAX_TABLES, bind};
+use dk_copy::{CopyError, FieldPlace, copied_rows};
 use dk_pages::{TableEntry, Tree};
 use dk_query::{QueryError, select};
 use dk_si::database::Table;
@@ -69,6 +70,19 @@ fn insert(alloc: Global, place: u32, given: &Rows, table: &Table) -> Result<Mean
         rows,
     };
     Ok(Meaning::Change { count, part })
+}
+
+/// COPY of data into the table of that place.
+fn copy(alloc: Global, place: u32, bytes: &[u8], table: &Table) -> Result<Meaning, QueryError>
+    ensures { Means result (copy_rows place bytes.now table.now) }
+{
+    match copied_rows(alloc, &table.schema, bytes) {
+        Ok(rows) => insert(alloc, place, &rows, table),
+        Err(CopyError::BadField(FieldPlace { row, field })) => {
+            Ok(Meaning::Refused(Refusal::BadField { row, field }))
+        }
+        Err(CopyError::OutOfMemory) => Err(QueryError::OutOfMemory),
+    }
 }
 
 /// UPDATE of the table of that place.
@@ -193,7 +207,10 @@ fn meaning_of(alloc: Global, tables: &[Table], bound: Bound) -> Result<Meaning, 
             Some(found) => insert(alloc, table, &rows, found),
         },
         Bound::InsertSelect { table, query } => insert_query(alloc, tables, table, &query),
-        Bound::Copy { .. } => Ok(unbuilt()),
+        Bound::Copy { table, bytes } => match table_at(tables, table) {
+            None => Ok(unbuilt()),
+            Some(found) => copy(alloc, table, bytes.as_slice(), found),
+        },
         Bound::Select { query } => rows_of(alloc, tables, &query),
         Bound::Update {
             table,
