@@ -12,3 +12,4 @@ pub mod ChangeLemmas
 pub mod SpareLemmas
 pub mod WholeLemmas
 pub mod PageLemmas
+pub mod KeptLemmas

@@ -1,5 +1,5 @@
 //! The rows of one vector with their versions.
-ghost use Rattle.std.specs.Prelude.{◌≡◌, ◌≢◌, ◌<◌, ℕ, [], ◌∷◌, length, slice_get, true, false, ◌==◌, if◌then◌else◌, IfOk, OnOk, OnErr};
+ghost use Rattle.std.specs.Prelude.{◌≡◌, ◌≢◌, ◌<◌, ◌≤◌, ◌^◌, ◌-◌, nat_le, nat_lt, ℕ, [], ◌∷◌, length, slice_get, true, false, ◌==◌, if◌then◌else◌, IfOk, OnOk, OnErr};
 ghost use Rattle.std.specs.List.{All};
 ghost use Rattle.dk_stamp.specs.declared.snapshot.TheConstants.{NEVER as UNDONE};
 ghost use Rattle.dk_stamp.specs.Sees.{sees};
@@ -9,7 +9,7 @@ ghost use Rattle.dk_version.specs.Rows.{stamps_of};
 ghost use Rattle.dk_vector.specs.Stacks.{absent, is_there, read, blocker, unseen_stamp, stamp_against, erased, erased_stamped, restored, undone, stamped, placed, placed_stamped, pruned};
 ghost use Rattle.dk_vector.specs.Vectors.{vector_of, stack_at, base_at, or_base, IsRow, IsOnTop, AreThere, ArePlaced, has_row, erased_rows, first_blocked, against_in};
 ghost use Rattle.dk_vector.specs.Changes.{IsWritten, NoneUndone, updated_if};
-ghost use Rattle.dk_vector.specs.Spare.{is_spare, AreFresh, IsReserved};
+ghost use Rattle.dk_vector.specs.Spare.{is_spare, room_at, values_if, put_in, is_kept, kept_rows, AreFresh, AreFreshFrom, IsReserved};
 ghost use Rattle.dk_vector.specs.Pages.{IsPage};
 
 use crate::pages::{hide_rows, write_back};
@@ -63,6 +63,52 @@ impl Vector {
         })
     }
 
+    /// How many rows there are, with those that are spare.
+    pub fn len(&self) -> usize
+        ensures { result ≡ length self.now.stamps.rows }
+    {
+        self.stamps.len()
+    }
+
+    /// Whether a row is needed: it is not spare, or has a change that was not undone.
+    fn is_kept(&self, row: usize) -> bool
+        requires within { row < length self.now.stamps.rows }
+        requires small { row < 2 ^ 16 }
+        ensures { result ≡ is_kept self.now row }
+    {
+        self.stamps.get(row).inserted != NEVER || self.chain.newest(row as u16).is_some()
+    }
+
+    /// How many rows are left without the spare ones at the end.
+    fn kept_rows(&self) -> usize
+        requires { length self.now.stamps.rows ≤ 2 ^ 16 }
+        ensures { result ≡ kept_rows self.now }
+    {
+        'rows: for k in 0..self.len() {
+            let n = self.len() - k;
+            if self.is_kept(n - 1) {
+                return n;
+            }
+        }
+        0
+    }
+
+    /// Takes the spare rows at the end away.
+    pub fn cut_spare(&mut self)
+        requires none { NoneUndone self.old.nodes }
+        requires small { length self.old.stamps.rows ≤ 2 ^ 16 }
+        ensures count { length self.new.stamps.rows ≡ kept_rows self.old }
+        ensures last { 0 < length self.new.stamps.rows
+            → is_kept self.new (length self.new.stamps.rows - 1) ≡ true }
+        ensures rows { (row : ℕ) → stack_at self.new row ≡ stack_at self.old row }
+        ensures nodes { self.new.nodes ≡ self.old.nodes }
+        ensures kinds { self.new.base.kinds ≡ self.old.base.kinds }
+    {
+        let n = self.kept_rows();
+        self.base.truncate(n);
+        self.stamps.truncate(n);
+    }
+
     /// Makes room for rows behind the others. They are spare, which no reader finds, until they are put in.
     pub fn reserve(&mut self, rows: &OptionRows) -> Result<(), OutOfMemory>
         requires kinds { self.old.base.kinds ≡ rows.now.kinds }
@@ -70,6 +116,10 @@ impl Vector {
         ensures ok { OnOk result (IsReserved rows.now.rows self.old self.new) }
         ensures rows { (row : ℕ) → stack_at self.new row ≡ stack_at self.old row }
         ensures nodes { self.new.nodes ≡ self.old.nodes }
+        ensures room { OnOk result ((row : ℕ) → room_at self.new row ≡ (if nat_lt row (length self.old.stamps.rows)
+            then room_at self.old row else values_if (slice_get rows.now.rows (row - length self.old.stamps.rows)))) }
+        ensures fresh { OnOk result (AreFreshFrom (length self.old.stamps.rows) self.new) }
+        ensures apart { OnOk result (0 < length self.old.stamps.rows → self.new.stamps.apart ≡ true) }
         ensures base { OnErr result (self.new.base ≡ self.old.base) }
         ensures stamps { OnErr result (self.new.stamps.rows ≡ self.old.stamps.rows) }
     {
@@ -94,6 +144,21 @@ impl Vector {
         ensures count { length self.new.stamps.rows ≡ length self.old.stamps.rows }
     {
         self.stamps.reinsert(NEVER, id);
+    }
+
+    /// Puts in the spare rows from a place on, for a transaction.
+    pub fn append_from(&mut self, start: usize, id: u64)
+        requires id { id ≢ UNDONE }
+        requires fresh { AreFreshFrom start self.old }
+        requires apart { 0 < start → self.old.stamps.apart ≡ true }
+        ensures rows { (row : ℕ) → stack_at self.new row ≡ (if nat_le start row
+            then put_in id (room_at self.old row) (stack_at self.old row) else stack_at self.old row) }
+        ensures base { self.new.base ≡ self.old.base }
+        ensures nodes { self.new.nodes ≡ self.old.nodes }
+        ensures apart { self.new.stamps.apart ≡ self.old.stamps.apart }
+        ensures count { length self.new.stamps.rows ≡ length self.old.stamps.rows }
+    {
+        self.stamps.reinsert_from(start, NEVER, id);
     }
 
     /// Takes away the changes that were undone: what they had replaced is written back.

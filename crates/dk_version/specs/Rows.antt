@@ -1,5 +1,5 @@
 -- The stamps of the rows of a vector.
-use Rattle.std.specs.Prelude.{ℕ, Bool, true, false, ◌&&◌, not, ◌==◌, List, replicate, Option, Some, None, slice_get, slice_set, if◌then◌else◌}
+use Rattle.std.specs.Prelude.{ℕ, zero, suc, Bool, true, false, ◌&&◌, not, ◌==◌, List, [], ◌∷◌, map, replicate, Option, Some, None, slice_get, slice_set, if◌then◌else◌}
 use Rattle.dk_stamp.specs.declared.snapshot.TheConstants.{NEVER}
 use Rattle.dk_version.specs.declared.stamps.Stamp.{Stamp}
 use Rattle.dk_version.specs.declared.stamps.Kept.{Kept}
@@ -28,6 +28,12 @@ spare_row = record { inserted = NEVER; deleted = NEVER }
 -- an insert stamp in place of another
 abbrev pub reinserted : ℕ → ℕ → Stamp → Stamp
 reinserted from to stamp = if stamp.inserted == from then record stamp { inserted = to } else stamp
+
+-- the same from a place on
+abbrev pub reinserted_from : ℕ → ℕ → ℕ → List Stamp → List Stamp
+reinserted_from zero from to rows = map (reinserted from to) rows
+reinserted_from (suc start) from to [] = []
+reinserted_from (suc start) from to (stamp ∷ rows) = stamp ∷ reinserted_from start from to rows
 
 abbrev pub erased_by : ℕ → Stamp → Stamp
 erased_by deleted stamp = record stamp { deleted = deleted }

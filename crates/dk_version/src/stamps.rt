@@ -2,7 +2,7 @@
 ghost use Rattle.std.specs.Prelude.{◌≡◌, ◌<◌, ◌≤◌, ◌+◌, ◌^◌, ◌++◌, [], Some, true, false, length, map, take, replicate, slice_get, OnOk, OnErr};
 ghost use Rattle.std.specs.List.{list_all};
 ghost use Rattle.dk_stamp.specs.Sees.{sees};
-ghost use Rattle.dk_version.specs.Rows.{stamps_of, rows_in, is_apart, spare_row, reinserted, with_deleted, is_there, unseen_delete};
+ghost use Rattle.dk_version.specs.Rows.{stamps_of, rows_in, is_apart, spare_row, reinserted, reinserted_from, with_deleted, is_there, unseen_delete};
 
 use dk_stamp::{NEVER, Snapshot};
 use dk_values::OutOfMemory;
@@ -111,6 +111,18 @@ impl Stamps {
         reinsert_kept(&mut self.kept, from, to);
     }
 
+    /// The same from a place on. Where that is not the first row, each row has stamps of its own.
+    pub fn reinsert_from(&mut self, start: usize, from: u64, to: u64)
+        requires { 0 < start → self.old.apart ≡ true }
+        ensures { self.new ≡ stamps_of (reinserted_from start from to self.old.rows) self.old.apart }
+    {
+        if start == 0 {
+            reinsert_kept(&mut self.kept, from, to);
+        } else {
+            reinsert_kept_from(&mut self.kept, start, from, to);
+        }
+    }
+
     /// Gives a row a delete stamp.
     pub fn set_deleted(&mut self, row: usize, stamp: u64)
         requires within { row < length self.old.rows }
@@ -130,6 +142,7 @@ impl Stamps {
     /// Adds spare rows behind the others. Rows that are not there yet take no memory in a vector without others.
     pub fn add_spare(&mut self, count: usize) -> Result<(), OutOfMemory>
         ensures ok { OnOk result (self.new.rows ≡ self.old.rows ++ replicate count spare_row) }
+        ensures apart { OnOk result (0 < length self.old.rows → self.new.apart ≡ true) }
         ensures err { OnErr result (self.new.rows ≡ self.old.rows) }
     {
         if self.len() == 0 {
@@ -218,6 +231,29 @@ fn reinsert_each(stamps: &mut Vec<Stamp>, from: u64, to: u64)
     }
 }
 
+/// Gives each row from a place on with this insert stamp another one.
+fn reinsert_kept_from(kept: &mut Kept, start: usize, from: u64, to: u64)
+    requires { is_apart kept.old ≡ true }
+    ensures rows { rows_in kept.new ≡ reinserted_from start from to (rows_in kept.old) }
+    ensures apart { is_apart kept.new ≡ true }
+{
+    match kept {
+        Kept::Same { .. } => unreachable!(),
+        Kept::Each(stamps) => reinsert_each_from(stamps, start, from, to),
+    }
+}
+
+/// Gives each row from a place on with this insert stamp another one.
+#[tactic(auto, using(crate::proofs::FromLemmas::from_next, crate::proofs::FromLemmas::from_past))]
+fn reinsert_each_from(stamps: &mut Vec<Stamp>, start: usize, from: u64, to: u64)
+    ensures { stamps.new.items ≡ reinserted_from start from to stamps.old.items }
+{
+    'rows: for k in 0..stamps.len().saturating_sub(start) {
+        let i = stamps.len() - 1 - k;
+        stamps[i] = reinserted(stamps[i], from, to);
+    }
+}
+
 /// The stamps with another insert stamp, if it was this one.
 fn reinserted(stamp: Stamp, from: u64, to: u64) -> Stamp
     ensures { result ≡ reinserted from to stamp }
@@ -261,6 +297,7 @@ fn truncate_kept(kept: &mut Kept, n: usize)
 fn add_spare_kept(kept: &mut Kept, count: usize) -> Result<(), OutOfMemory>
     requires { is_apart kept.old ≡ true }
     ensures ok { OnOk result (rows_in kept.new ≡ rows_in kept.old ++ replicate count spare_row) }
+    ensures apart { is_apart kept.new ≡ true }
     ensures err { OnErr result (rows_in kept.new ≡ rows_in kept.old) }
 {
     match kept {
