@@ -1,0 +1,4 @@
+mod SeatLemmas
+mod BoundLemmas
+mod LawfulLemmas
+mod PendingLemmas
